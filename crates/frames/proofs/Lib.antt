@@ -1,0 +1,4 @@
+pub mod Reading
+pub mod Passed
+pub mod Strings
+pub mod Spoiled

@@ -1,0 +1,7 @@
+// What is known of the fluents, and the actions that change it.
+pub mod actions;
+pub mod orders;
+pub mod states;
+#[cfg(test)]
+mod tests;
+pub mod worlds;
