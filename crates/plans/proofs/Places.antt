@@ -2,11 +2,12 @@
 use Prim.Native.Nat.{ℕ, _+_, _≤_, _<_}
 use mathlib.Core.Bool.{Bool, true}
 use mathlib.Core.List.{List, _∷_, _++_, append-assoc}
+use mathlib.Core.Logic.{inl, inr}
 use mathlib.Core.Path.{_≡_, refl, sym, ap, _∙_}
 use native.Mathlib.Omega.{arith}
 use lib.ListN.{length, drop, length-drop}
 use Rattle.std.proofs.shelf.Lists.{drop-drop, drop-at}
-use Rattle.plans.specs.Trees.{Plan, act, ask, encode, past, Fits}
+use Rattle.plans.specs.Trees.{Plan, finish, act, ask, gap, encode, past, NodeAt, Fits}
 
 -- ---- what is left behind the first bytes of what is left
 
@@ -36,6 +37,20 @@ module _ (s : List ℕ) (i a : ℕ) (rest : List ℕ) where
       sym (drop-drop (length (encode p)) (i + 2) s)
       ∙ ap (λ (l : List ℕ). drop (length (encode p)) l) (true-stands p q e)
       ∙ drop-at (encode p) (encode q ++ rest) (length (encode p)) refl
+
+-- ---- every node of a plan that stands at offset i of s stands at its place, with its bytes
+
+here : (s : List ℕ) (i j : ℕ) (p q : Plan) (rest : List ℕ) → drop i s ≡ encode p ++ rest → (j ≡ i) × (q ≡ p) → (more : List ℕ) × (drop j s ≡ encode q ++ more)
+here s i j p q rest e h = (rest, ap (λ (n : ℕ). drop n s) (h .0) ∙ e ∙ ap (λ x. encode x ++ rest) (sym (h .1)))
+
+pub node-stands : (p : Plan) (s : List ℕ) (i j : ℕ) (q : Plan) (rest : List ℕ) → drop i s ≡ encode p ++ rest → NodeAt i p j q → (more : List ℕ) × (drop j s ≡ encode q ++ more)
+node-stands finish s i j q rest e h = here s i j finish q rest e h
+node-stands (act a p) s i j q rest e (inl h) = here s i j (act a p) q rest e h
+node-stands (act a p) s i j q rest e (inr h) = node-stands p s (i + 2) j q rest (rest-stands s i a rest p e) h
+node-stands (ask a p r) s i j q rest e (inl h) = here s i j (ask a p r) q rest e h
+node-stands (ask a p r) s i j q rest e (inr (inl h)) = node-stands p s (i + 2) j q (encode r ++ rest) (true-stands s i a rest p r e) h
+node-stands (ask a p r) s i j q rest e (inr (inr h)) = node-stands r s (past (i + 2) p) j q rest (false-stands s i a rest p r e) h
+node-stands gap s i j q rest e h = here s i j gap q rest e h
 
 -- ---- the parts of a plan within the limits
 

@@ -2,6 +2,7 @@
 use Prim.Native.Nat.{ℕ, suc, _+_, _≤_, max}
 use mathlib.Core.Bool.{Bool, true}
 use mathlib.Core.List.{List, [], _∷_, _++_}
+use mathlib.Core.Logic.{_⊎_}
 use mathlib.Core.Path.{_≡_}
 use lib.ListN.{length}
 
@@ -25,6 +26,13 @@ encode gap = 3 ∷ []
 -- reading node. The plan for false stands just past the plan p for true, at `past (i + 2) p`.
 abbrev pub past : ℕ → Plan → ℕ
 past i p = i + length (encode p)
+
+-- In the plan p whose first node stands at i, the plan q stands at j: the place of each node.
+abbrev pub NodeAt : ℕ → Plan → ℕ → Plan → Type 0
+NodeAt i finish j q = (j ≡ i) × (q ≡ finish)
+NodeAt i (act a p) j q = ((j ≡ i) × (q ≡ act a p)) ⊎ NodeAt (i + 2) p j q
+NodeAt i (ask a p r) j q = ((j ≡ i) × (q ≡ ask a p r)) ⊎ (NodeAt (i + 2) p j q ⊎ NodeAt (past (i + 2) p) r j q)
+NodeAt i gap j q = (j ≡ i) × (q ≡ gap)
 
 -- the most readings that lie on one path from the root to a leaf
 abbrev pub readings : Plan → ℕ

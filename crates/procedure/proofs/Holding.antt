@@ -1,10 +1,10 @@
 -- The parts of a file that has a procedure, and what a loaded file keeps of them. Assumes nothing.
 use Prim.Native.Nat.{ℕ, _+_, _≤_, _<_}
 use mathlib.Core.Bool.{Bool, true, false, _&&_}
-use mathlib.Core.List.{List}
+use mathlib.Core.List.{List, _++_}
 use mathlib.Core.Path.{_≡_, refl, sym, ap, subst, _∙_}
 use lib.Dec.{eqb}
-use lib.ListN.{length, take, drop, getD}
+use lib.ListN.{length, take, drop, getD, take-append-drop}
 use native.Mathlib.Omega.{arith}
 use borrow.Author.Tests.{eqb-true, eq-eqb}
 use Rattle.std.specs.Options.{Cases}
@@ -17,9 +17,10 @@ use Rattle.fluents.specs.declared.faults.Fault.{Fault}
 use Rattle.fluents.specs.declared.faults.Refusal.the-variants.{BadField}
 use Rattle.knowledge.specs.declared.actions.Action.{Action}
 use Rattle.plans.specs.Checks.{planOf}
-use Rattle.plans.specs.Trees.{Plan, encode}
+use Rattle.plans.specs.Trees.{Plan, encode, NodeAt}
 use Rattle.plans.specs.declared.Flaw.{Flaw}
 use Rattle.plans.proofs.Parses.{plan-spells}
+use Rattle.plans.proofs.Places.{node-stands}
 use Rattle.frames.specs.Frames.{Frame, frameAt, afterAt, lengthAt}
 use Rattle.frames.specs.Files.{File, framesOf}
 use Rattle.frames.specs.declared.frame.Due.the-variants.{Body}
@@ -84,6 +85,14 @@ plan-lies s p e =
       omega (arith, long, t .place, whole),
       ap (λ (n : ℕ). take n (drop (p .place) s)) long ∙ ap (λ (q : ℕ). take (lengthAt s at) (drop q s)) (t .place) ∙ sym payload ∙ spelled,
     )
+
+-- and every node of the plan stands at its place
+pub nodes-stand : (s : List ℕ) (p : Procedure) → procedureOf s ≡ Ok p → (j : ℕ) (q : Plan) → NodeAt (p .place) (p .plan) j q
+    → (rest : List ℕ) × (drop j s ≡ encode q ++ rest)
+nodes-stand s p e j q at =
+    let n = length (encode (p .plan)) in
+    node-stands (p .plan) s (p .place) j q (drop n (drop (p .place) s))
+    (sym (take-append-drop n (drop (p .place) s)) ∙ ap (λ xs. xs ++ drop n (drop (p .place) s)) (plan-lies s p e .1)) at
 
 -- ---- the numbers that a loaded file keeps
 

@@ -1,11 +1,12 @@
 // Load, and what may be asked of a loaded file.
 ghost use mathlib.Core.Path.{_≡_};
-ghost use Prim.Native.Nat.{_<_, _≤_};
-ghost use lib.ListN.{length, getD};
+ghost use mathlib.Core.List.{List, _++_};
+ghost use Prim.Native.Nat.{ℕ, _<_, _≤_};
+ghost use lib.ListN.{length, drop, getD};
 ghost use Rattle.std.specs.Options.{Cases as BySome};
 ghost use Rattle.std.specs.Results.{Cases};
 ghost use Rattle.std.specs.declared.result.Result.the-variants.{Ok, Err};
-ghost use Rattle.plans.specs.Trees.{encode};
+ghost use Rattle.plans.specs.Trees.{Plan, encode, NodeAt};
 ghost use Rattle.procedure.specs.Acts.{rowOf, actSeen};
 ghost use Rattle.procedure.specs.Procedures.{Act, Procedure, procedureOf};
 ghost use Rattle.procedure.specs.Starts.{Gives};
@@ -84,9 +85,11 @@ impl<'a> Loaded<'a> {
         self.actions
     }
 
-    // The bytes of the plan as a part of the file, and the place of the first.
+    // The bytes of the plan as a part of the file, and the place of the first. Every node of the plan stands in the
+    // file at its place.
     pub fn plan(&self) -> Payload<'a>
-        ensures { λ r. ⌜ ((p : Procedure) → procedureOf (now (now (self .entry) .file)) ≡ Ok p → (now (r .bytes) ≡ encode (p .plan)) × (r .place ≡ p .place)) ⌝ }
+        ensures nodes { λ _. ⌜ ((p : Procedure) → procedureOf (now (now (self .entry) .file)) ≡ Ok p → (j : ℕ) (q : Plan) → NodeAt (p .place) (p .plan) j q → (rest : List ℕ) × (drop j (now (now (self .entry) .file)) ≡ encode q ++ rest)) ⌝ }
+        ensures value { λ r. ⌜ ((p : Procedure) → procedureOf (now (now (self .entry) .file)) ≡ Ok p → (now (r .bytes) ≡ encode (p .plan)) × (r .place ≡ p .place)) ⌝ }
     {
         Payload {
             bytes: &self.file[self.plan..self.plan + self.len],

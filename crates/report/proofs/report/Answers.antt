@@ -33,6 +33,6 @@ returns-in-Ok-load c =
     let loaded : procedureOf (opened .loaded .file .now) ≡ Ok p = ap (λ f. procedureOf (f .now)) (ap (λ v. v .loaded .file) (c .take-opened .ensures) ∙ got .0) ∙ got .1 .1 in
     let n = c .n .ensures p loaded in
     let actions = c .actions .ensures p loaded in
-    let bytes = ap length (c .plan .ensures p loaded .0) in
+    let bytes = ap length (c .plan .ensures .value p loaded .0) in
     let start = c .kind-of .ensures ∙ ap (λ v. kindSeen (v .start)) (c .take-opened .ensures) ∙ gives-kind _ _ _ (p .start) (got .1 .2) in
     (λ i. Loaded (n i) (actions i) (bytes i) (start i)) ∙ ap reportOf (sym here)
