@@ -26,10 +26,10 @@ use knowledge::actions::Action;
 use plans::Sorts;
 
 // The place just past the header frame: 17 bytes of payload, and 6 around it.
-pub const HEADER_END: usize = 23;
+const HEADER_END: usize = 23;
 
 // The action of a frame, where it is an action with good fields.
-pub fn action_of(frame: Frame, n: u8) -> Option<Action>
+pub(crate) fn action_of(frame: Frame, n: u8) -> Option<Action>
     requires { ⌜ (isFit (kindOf frame) (length (now (payloadOf frame .bytes))) ≡ true) × (n ≤ 64) ⌝ }
     ensures action { λ r. ⌜ BySome r (Unit {0}) (λ _. isAction (kindOf (frame .entry)) ≡ true) ⌝ }
     ensures value { λ r. ⌜ ((sheet : Sheet) → Shows (frame .entry) sheet → isAction (sheet .kind) ≡ true → BySome r (actOf n sheet ≡ Err (faultAt BadField (sheet .place))) (λ a. actOf n sheet ≡ Ok (actSeen a))) ⌝ }
@@ -66,7 +66,7 @@ fn noted(sorts: Sorts, k: usize, action: Action) -> Sorts
 }
 
 // The sorts of the actions of a file with so many, where the fields of all are good.
-pub fn sorts_of(file: &[u8], n: u8, count: usize) -> Result<Sorts, Fault>
+pub(crate) fn sorts_of(file: &[u8], n: u8, count: usize) -> Result<Sorts, Fault>
     requires { ⌜ n ≤ 64 ⌝ }
     ensures { λ r. ⌜ ((whole : File) → framesOf (now (file .entry)) ≡ Ok whole → length (whole .rest .actions) ≡ count → Cases r (λ sorts. (acts : List Act) × (actsOf n (whole .rest .actions) ≡ Ok acts) × Sorted acts sorts) (λ e. actsOf n (whole .rest .actions) ≡ Err e)) ⌝ }
 {
@@ -89,8 +89,8 @@ pub fn sorts_of(file: &[u8], n: u8, count: usize) -> Result<Sorts, Fault>
     Ok(sorts)
 }
 
-// The frame of the action of this number, in a file that has so many actions.
-pub fn action_frame(file: &[u8], number: usize) -> Option<Frame<'_>>
+// The frame of the action of this number, where the file has that many actions.
+pub(crate) fn action_frame(file: &[u8], number: usize) -> Option<Frame<'_>>
     ensures fits { λ r. ⌜ BySome r (Unit {0}) (λ frame. isFit (kindOf frame) (length (now (payloadOf frame .bytes))) ≡ true) ⌝ }
     ensures value { λ r. ⌜ ((whole : File) → framesOf (now (file .entry)) ≡ Ok whole → number < length (whole .rest .actions) → BySome r ⊥ (λ frame. (sheet : Sheet) × ((d : Sheet) → getD (whole .rest .actions) number d ≡ sheet) × Shows frame sheet × (isAction (sheet .kind) ≡ true))) ⌝ }
 {

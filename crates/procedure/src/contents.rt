@@ -74,7 +74,7 @@ fn read_start(file: &[u8], place: usize, n: u8, list: &mut WorldList) -> Result<
 
 // What the fields of a file say.
 #[derive(Clone, Copy)]
-pub struct Contents {
+pub(crate) struct Contents {
     pub n: u8,
     pub goal: PartialState,
     // how many bytes the plan has
@@ -83,7 +83,7 @@ pub struct Contents {
 }
 
 // Checks all fields of a selected file, or says the first refusal; worlds go into the list, which otherwise stays as it was.
-pub fn contents_of(selected: &Selected, list: &mut WorldList) -> Result<Contents, Fault>
+pub(crate) fn contents_of(selected: &Selected, list: &mut WorldList) -> Result<Contents, Fault>
     ensures { λ r. ⌜ Cases r (λ found. (p : Procedure) × (procedureOf (now (now (selected .entry) .file)) ≡ Ok p) × Says found (now (selected .entry) .actions) (now (selected .entry) .plan) p × Gives (found .start) (now (list .entry)) (now (list .exit)) (p .start)) (λ e. (procedureOf (now (now (selected .entry) .file)) ≡ Err e) × (now (list .exit) ≡ now (list .entry))) ⌝ }
 {
     let file = selected.file();

@@ -11,7 +11,7 @@ use knowledge::actions::ReadingAction;
 use knowledge::states::PartialState;
 
 // The set in eight bytes, lowest byte first.
-pub fn set_at(bytes: &[u8], at: usize) -> Set
+pub(crate) fn set_at(bytes: &[u8], at: usize) -> Set
     requires { ⌜ at + 8 ≤ length (now bytes) ⌝ }
     ensures { λ r. ⌜ r ≡ setAt (now (bytes .entry)) at ⌝ }
 {
@@ -28,14 +28,14 @@ pub fn set_at(bytes: &[u8], at: usize) -> Set
 }
 
 // Whether the set has only members below n.
-pub fn is_inside(set: Set, n: u8) -> bool
+pub(crate) fn is_inside(set: Set, n: u8) -> bool
     ensures { λ r. ⌜ r ≡ isInside n set ⌝ }
 {
     n >= 64 || set >> n == 0
 }
 
 // The partial state in sixteen bytes, where it is one over the fluents below n.
-pub fn state_at(bytes: &[u8], at: usize, n: u8) -> Option<PartialState>
+pub(crate) fn state_at(bytes: &[u8], at: usize, n: u8) -> Option<PartialState>
     requires { ⌜ at + 16 ≤ length (now bytes) ⌝ }
     ensures { λ r. ⌜ BySome r (isState n (rowAt (now (bytes .entry)) at) ≡ false) (λ s. (isState n (rowAt (now (bytes .entry)) at) ≡ true) × (s .trues ≡ setAt (now (bytes .entry)) at) × (s .falses ≡ setAt (now (bytes .entry)) (at + 8))) ⌝ }
 {
@@ -50,13 +50,13 @@ pub fn state_at(bytes: &[u8], at: usize, n: u8) -> Option<PartialState>
 
 // What the header says: the number of fluents, and the goal.
 #[derive(Clone, Copy)]
-pub struct Header {
+pub(crate) struct Header {
     pub n: u8,
     pub goal: PartialState,
 }
 
 // The header of a payload of 17 bytes, where its fields are good.
-pub fn header_fields(bytes: &[u8]) -> Option<Header>
+pub(crate) fn header_fields(bytes: &[u8]) -> Option<Header>
     requires { ⌜ length (now bytes) ≡ 17 ⌝ }
     ensures { λ r. ⌜ BySome r (isHeader (now (bytes .entry)) ≡ false) (λ h. (isHeader (now (bytes .entry)) ≡ true) × (h .n ≡ getD (now (bytes .entry)) 0 0) × (h .goal .trues ≡ setAt (now (bytes .entry)) 1) × (h .goal .falses ≡ setAt (now (bytes .entry)) 9)) ⌝ }
 {
@@ -69,7 +69,7 @@ pub fn header_fields(bytes: &[u8]) -> Option<Header>
 }
 
 // The doing action of a payload of 32 bytes, where its fields are good.
-pub fn doing_action(bytes: &[u8], n: u8) -> Option<DoingAction>
+pub(crate) fn doing_action(bytes: &[u8], n: u8) -> Option<DoingAction>
     requires { ⌜ length (now bytes) ≡ 32 ⌝ }
     ensures { λ r. ⌜ BySome r (isDoing n (now (bytes .entry)) ≡ false) (λ a. (isDoing n (now (bytes .entry)) ≡ true) × (a .conditions .trues ≡ setAt (now (bytes .entry)) 0) × (a .conditions .falses ≡ setAt (now (bytes .entry)) 8) × (a .add ≡ setAt (now (bytes .entry)) 16) × (a .del ≡ setAt (now (bytes .entry)) 24)) ⌝ }
 {
@@ -84,7 +84,7 @@ pub fn doing_action(bytes: &[u8], n: u8) -> Option<DoingAction>
 }
 
 // The reading action of a payload of 17 bytes, where its fields are good; n is at most 64.
-pub fn reading_action(bytes: &[u8], n: u8) -> Option<ReadingAction>
+pub(crate) fn reading_action(bytes: &[u8], n: u8) -> Option<ReadingAction>
     requires { ⌜ (length (now bytes) ≡ 17) × (n ≤ 64) ⌝ }
     ensures { λ r. ⌜ BySome r (isReading n (now (bytes .entry)) ≡ false) (λ a. (isReading n (now (bytes .entry)) ≡ true) × (a .conditions .trues ≡ setAt (now (bytes .entry)) 0) × (a .conditions .falses ≡ setAt (now (bytes .entry)) 8) × (a .fluent .index ≡ getD (now (bytes .entry)) 16 0)) ⌝ }
 {

@@ -4,3 +4,5 @@ mod contents;
 mod fields;
 pub mod loaded;
 pub mod starts;
+#[cfg(test)]
+mod tests;
