@@ -170,3 +170,33 @@ below-bits n a small i e = go (cases-lt i n)
     go : (i < n) ⊎ (n ≤ i) → i < n
     go (inl h) = h
     go (inr h) = let z : false ≡ true = sym (bit-above a n i small h) ∙ e in absurd (subst T (sym z) tt)
+
+-- ---- within and apart, member by member
+
+and-first : (a b : Bool) → (a && b) ≡ a → a ≡ true → b ≡ true
+and-first true b e t = e
+and-first false b e t = let z : _≡_ {A = ℕ} 0 1 = cc in absurd (omega arith)
+
+first-and : (a b : Bool) → (a ≡ true → b ≡ true) → (a && b) ≡ a
+first-and true b h = h refl
+first-and false b h = refl
+
+pub within-members : (a b : ℕ) → Within a b → (i : ℕ) → bit a i ≡ true → bit b i ≡ true
+within-members a b e i t = and-first (bit a i) (bit b i) (sym (bit-and a b i) ∙ ap (λ (n : ℕ). bit n i) e) t
+
+pub members-within : (a b : ℕ) → ((i : ℕ) → bit a i ≡ true → bit b i ≡ true) → Within a b
+members-within a b h = same-members (bitAnd a b) a (λ i. bit-and a b i ∙ first-and (bit a i) (bit b i) (h i))
+
+and-none : (a b : Bool) → (a && b) ≡ false → a ≡ true → b ≡ false
+and-none true b e t = e
+and-none false b e t = let z : _≡_ {A = ℕ} 0 1 = cc in absurd (omega arith)
+
+none-and : (a b : Bool) → (a ≡ true → b ≡ false) → (a && b) ≡ false
+none-and true b h = h refl
+none-and false b h = refl
+
+pub apart-members : (a b : ℕ) → Apart a b → (i : ℕ) → bit a i ≡ true → bit b i ≡ false
+apart-members a b e i t = and-none (bit a i) (bit b i) (sym (bit-and a b i) ∙ ap (λ (n : ℕ). bit n i) e ∙ bit-zero i) t
+
+pub members-apart : (a b : ℕ) → ((i : ℕ) → bit a i ≡ true → bit b i ≡ false) → Apart a b
+members-apart a b h = same-members (bitAnd a b) 0 (λ i. bit-and a b i ∙ none-and (bit a i) (bit b i) (h i) ∙ sym (bit-zero i))

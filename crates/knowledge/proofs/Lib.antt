@@ -1,2 +1,4 @@
-pub mod Listing
+pub mod Choosing
 pub mod Determined
+pub mod Extending
+pub mod Listing

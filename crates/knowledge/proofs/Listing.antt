@@ -9,6 +9,7 @@ use lib.ListN.{length, getD, set, take, replicate}
 use Rattle.std.specs.shelf.Lists.{Has}
 use Rattle.std.proofs.shelf.Lists.{getD-default, getD-replicate, getD-past, getD-take, getD-map, length-map, length-replicate, length-take-le, map-more, map-push, take-append-le, take-more, take-more-set}
 use Rattle.std.proofs.shelf.Tests.{cases-lt, eqb-true, leb-false}
+use Rattle.knowledge.proofs.Choosing.{has-map, has-unmap}
 use Rattle.least.specs.Kept.{MadeOf, Ascending, Reaches}
 use Rattle.knowledge.specs.declared.orders.Distinct.{Distinct}
 use Rattle.knowledge.specs.Orders.{worldBelow, worldUpto}
@@ -35,14 +36,10 @@ padded-more ws ds i d in-ws in-ds before =
     take-more-set ws i (worldOf (getD ds i d)) in-ws ∙ ap (λ xs. xs ++ worldOf (getD ds i d) ∷ []) before ∙ sym (map-more worldOf ds i d in-ds)
 
 -- a world stands in a list where it stands wrapped
-has-map : (ds : List Distinct) (x : Distinct) → Has ds x → Has (map worldOf ds) (worldOf x)
-has-map ds x has =
-    (has .0, omega (arith, length-map ds worldOf, has .1), λ w. getD-map worldOf ds (has .0) x w (has .1) ∙ ap worldOf (has .2 x))
-
-has-unmap : (ds : List Distinct) (w : ℕ) → Has (map worldOf ds) w → Has ds (record { world = w })
-has-unmap ds w has =
-    let lt : has .0 < length ds = omega (arith, length-map ds worldOf, has .1) in
-    (has .0, lt, λ d. ap (λ n. record { world = n }) (sym (getD-map worldOf ds (has .0) d w lt) ∙ has .2 w))
+has-wrapped : (ds : List Distinct) (w : ℕ) → Has (map worldOf ds) w → Has ds (record { world = w })
+has-wrapped ds w has =
+    let got = has-unmap worldOf (record { world = 0 }) ds w has in
+    subst (Has ds) (ap (λ n. record { world = n }) (sym (got .2))) (got .1)
 
 -- What a made list has: the given worlds stand in the first n places of ws, strictly ascending, and zeros after them.
 pub record Listed (given ws : List ℕ) (n : ℕ) : Type 0 where
@@ -68,11 +65,11 @@ module _ (ds es : List Distinct) (ws : List ℕ) (n : ℕ) (size : length es ≡
 
   kept-same : MadeOf ds es → Reaches worldBelow ds es → SameWorlds (take n ws) (map worldOf ds)
   kept-same made reaches = (
-    λ w has. has-map ds (record { world = w }) (made (record { world = w }) (has-unmap es w (subst (λ xs. Has xs w) front has))),
+    λ w has. has-map worldOf ds (record { world = w }) (made (record { world = w }) (has-wrapped es w (subst (λ xs. Has xs w) front has))),
     λ w has.
-        (let under = reaches (record { world = w }) (has-unmap ds w has) in
+        (let under = reaches (record { world = w }) (has-wrapped ds w has) in
         let same : worldOf (under .0) ≡ w = eqb-true _ _ (under .2) in
-        subst (λ xs. Has xs w) (sym front) (subst (λ v. Has (map worldOf es) v) same (has-map es (under .0) (under .1)))),
+        subst (λ xs. Has xs w) (sym front) (subst (λ v. Has (map worldOf es) v) same (has-map worldOf es (under .0) (under .1)))),
   )
 
 -- the first n of the kept worlds are the distinct ones, and ws begins with those; a part from the start is written as the checker has it

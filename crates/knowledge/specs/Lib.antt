@@ -1,2 +1,5 @@
 pub mod Orders
 pub mod Worlds
+pub mod Meaning
+pub mod Extends
+pub mod Listed

@@ -1,5 +1,6 @@
 // What is known of the fluents, and the actions that change it.
 pub mod actions;
+pub mod kinds;
 pub mod orders;
 pub mod states;
 #[cfg(test)]

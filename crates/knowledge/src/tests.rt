@@ -1,8 +1,13 @@
 use crate::actions::DoingAction;
+use crate::kinds::Knowledge;
 use crate::states::PartialState;
+use crate::states::kind::PartialKnowledge;
 use crate::worlds::WorldList;
+use crate::worlds::kind::WorldKnowledge;
 use fluents::faults::Fault;
 use fluents::faults::FaultDebug;
+use fluents::literals::Fluent;
+use fluents::literals::Literal;
 use std::test::*;
 
 // The call was refused by this number, at place 0.
@@ -37,4 +42,19 @@ fn a_world_list_ascends_without_repeats() -> Result<(), Fail> {
     check_eq(list.get(0), Some(0))?;
     check_eq(list.get(1), Some(5))?;
     check_eq(list.get(2), None)
+}
+
+#[test]
+fn a_value_that_no_world_has_is_refused() -> Result<(), Fail> {
+    let on = Literal::new(0, true)?;
+    refused(WorldList::single(0).learn(on), 10)?;
+    refused(PartialState::new(0, 1)?.learn(on), 10)
+}
+
+#[test]
+fn a_list_is_split_on_a_fluent() -> Result<(), Fail> {
+    let halves = WorldList::new(&[0, 5])?.split(Fluent::new(2)?);
+    check(halves.has_true & halves.has_false)?;
+    check_eq(halves.when_true.get(0), Some(5))?;
+    check_eq(halves.when_false.get(0), Some(0))
 }

@@ -4,6 +4,7 @@ ghost use Prim.Native.Nat.{ℕ, _^_, _<_, _≤_};
 ghost use lib.ListN.{length, getD};
 use fluents::sets::Set;
 
+pub mod kind;
 pub mod makers;
 
 // The set of the fluents that are true in the world; the others are false in it.

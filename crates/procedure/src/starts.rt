@@ -81,6 +81,7 @@ fn worlds_into(bytes: &[u8], n: u8, list: &mut WorldList) -> Option<Start>
 // The start of a frame, where its fields are good; worlds go into the list, which otherwise stays as it was.
 pub(crate) fn start_into(frame: Frame, n: u8, list: &mut WorldList) -> Option<Start>
     requires { ⌜ isFit (kindOf frame) (length (now (payloadOf frame .bytes))) ≡ true ⌝ }
+    ensures kind { λ r. ⌜ BySome r (Unit {0}) (λ _. isDue StartDue (kindOf (frame .entry)) ≡ true) ⌝ }
     ensures stays { λ r. ⌜ BySome r (now (list .exit) ≡ now (list .entry)) (λ _. Unit {0}) ⌝ }
     ensures value { λ r. ⌜ ((sheet : Sheet) → Shows (frame .entry) sheet → isDue StartDue (sheet .kind) ≡ true → BySome r (knownOf n sheet ≡ Err (faultAt BadField (sheet .place))) (λ start. (known : Known) × (knownOf n sheet ≡ Ok known) × Gives start (now (list .entry)) (now (list .exit)) known)) ⌝ }
 {
