@@ -1,7 +1,7 @@
 -- Raising bit 0 of a word and giving it its earlier value back. Assumes nothing.
 use Rattle.std.proofs.Common.{◌≡◌, ℕ, ◌/◌, ◌%◌, ◌^◌, Bool, true, false, not, ◌&&◌, ◌||◌, eqb, sym, refl, ap, ◌∙◌, subst, arith, ne_eqb, eqb-true}
 use lib.Bits.{bit_and}
-use Rattle.fluents.specs.Sets.{bit, union, minus}
+use Rattle.fluents.specs.Sets.{bit, minus}
 use Rattle.fluents.proofs.Bits.{bit-or, bit-minus, bit-only, low_digit, same_members}
 use Rattle.permit.specs.Words.{bit_zero, raised, lowered}
 

@@ -1,4 +1,6 @@
 // The permit: bit 0 of a lent word, which is set while a run is armed.
+#![tactic(auto)]
+
 ghost use Rattle.std.specs.Prelude.{◌≡◌};
 ghost use Rattle.permit.specs.Words.{lowered};
 
