@@ -15,8 +15,8 @@ returns-in-err-frame c = λ whole e long.
     let more : l.k < length whole.rest.actions = omega (arith, long, c.loop-k-test.true) in
     some_none (sym c.in-err-frame.ensures.0 ∙ (at_next c.args.n c.args.file.now whole.rest.actions l.k l.place l.sorts (l.invariant whole e long) more).sound)
 
-pub action-of-requires : goal.action-of-requires
-action-of-requires c =
+pub action_of-requires : goal.action_of-requires
+action_of-requires c =
     let read = c.in-ok-frame.ensures in
     (held_fits c.args.file.now c.loop-k.place (Body c.loop-k.k) c.in-ok-frame.frame read.0 read.1, c.requires)
 

@@ -10,7 +10,7 @@ use Rattle.procedure.proofs.contents.check_plan.Goals as goal
 
 pub returns-in-err-read : goal.returns-in-err-read
 returns-in-err-read c =
-    let p = err_from_is_err_and c.from-residual.result c.from-residual.ensures.1 in
+    let p = err_from_is_err_and c.from_residual.result c.from_residual.ensures.1 in
     rw (p.1, p.2)
     (λ whole e long at acts sorted. some_none (sym c.in-err-read.ensures.0 ∙ (plan_sound c.args.file.now whole c.args.actions c.args.place e long at).0))
 

@@ -8,7 +8,7 @@ use Rattle.procedure.proofs.contents.contents_of.Goals as goal
 
 pub returns-in-err-header : goal.returns-in-err-header
 returns-in-err-header c =
-    let p = err_from_is_err_and c.from-residual.result c.from-residual.ensures.1 in
+    let p = err_from_is_err_and c.from_residual.result c.from_residual.ensures.1 in
     let sel = c.args.selected.now in
     let l = laid sel.file.now sel.actions sel.plan sel.start sel.laid in
     let frames = ap (λ f. frames_of f.now) c.file-file.ensures ∙ l.frames in
@@ -17,7 +17,7 @@ returns-in-err-header c =
 
 pub returns-in-err-sorts : goal.returns-in-err-sorts
 returns-in-err-sorts c =
-    let p = err_from_is_err_and c.from-residual-in-err-sorts.result c.from-residual-in-err-sorts.ensures.1 in
+    let p = err_from_is_err_and c.from_residual-in-err-sorts.result c.from_residual-in-err-sorts.ensures.1 in
     let sel = c.args.selected.now in
     let l = laid sel.file.now sel.actions sel.plan sel.start sel.laid in
     let frames = ap (λ f. frames_of f.now) c.file-file.ensures ∙ l.frames in
@@ -28,7 +28,7 @@ returns-in-err-sorts c =
 
 pub returns-in-err-len : goal.returns-in-err-len
 returns-in-err-len c =
-    let p = err_from_is_err_and c.from-residual-in-err-len.result c.from-residual-in-err-len.ensures.1 in
+    let p = err_from_is_err_and c.from_residual-in-err-len.result c.from_residual-in-err-len.ensures.1 in
     let sel = c.args.selected.now in
     let l = laid sel.file.now sel.actions sel.plan sel.start sel.laid in
     let frames = ap (λ f. frames_of f.now) c.file-file.ensures ∙ l.frames in
@@ -44,7 +44,7 @@ returns-in-err-len c =
 
 pub returns-in-err-start : goal.returns-in-err-start
 returns-in-err-start c =
-    let p = err_from_is_err_and c.from-residual-in-err-start.result c.from-residual-in-err-start.ensures.1 in
+    let p = err_from_is_err_and c.from_residual-in-err-start.result c.from_residual-in-err-start.ensures.1 in
     let sel = c.args.selected.now in
     let l = laid sel.file.now sel.actions sel.plan sel.start sel.laid in
     let frames = ap (λ f. frames_of f.now) c.file-file.ensures ∙ l.frames in

@@ -10,15 +10,15 @@ use Rattle.procedure.proofs.contents.read_header.Goals as goal
 
 pub returns-in-err-frame : goal.returns-in-err-frame
 returns-in-err-frame c =
-    let p = err_from_is_err_and c.from-residual.result c.from-residual.ensures.1 in
+    let p = err_from_is_err_and c.from_residual.result c.from_residual.ensures.1 in
     rw (p.1, p.2)
     (record {
       few = tt;
       value = λ whole e. some_none (sym c.in-err-frame.ensures.0 ∙ (opening c.args.file.now whole e).sound);
     })
 
-pub header-fields-requires : goal.header-fields-requires
-header-fields-requires c =
+pub header_fields-requires : goal.header_fields-requires
+header_fields-requires c =
     let read = c.in-ok-frame.ensures in
     ap (λ p. length p.bytes.now) c.payload.ensures ∙ header_long c.args.file.now c.in-ok-frame.frame read.0 read.1
 

@@ -11,15 +11,15 @@ use Rattle.procedure.proofs.contents.read_start.Goals as goal
 
 pub returns-in-err-frame : goal.returns-in-err-frame
 returns-in-err-frame c =
-    let p = err_from_is_err_and c.from-residual.result c.from-residual.ensures.1 in
+    let p = err_from_is_err_and c.from_residual.result c.from_residual.ensures.1 in
     rw (p.1, p.2)
     (record {
       stays = search;
       value = λ whole e at. some_none (sym c.in-err-frame.ensures.0 ∙ (start_sound c.args.file.now whole c.args.place e at).0);
     })
 
-pub start-into-requires : goal.start-into-requires
-start-into-requires c =
+pub start_into-requires : goal.start_into-requires
+start_into-requires c =
     let read = c.in-ok-frame.ensures in
     held_fits c.args.file.now c.args.place Start c.in-ok-frame.frame read.0 read.1
 

@@ -9,10 +9,10 @@ loop-i-preserved c =
     let l = c.loop-i in
     let s = c.args.bytes.now in
     let at : l.i < length l.worlds = omega (arith, l.invariant.0, c.loop-i-test.true, c.requires) in (
-      length-set l.worlds l.i c.set-at.result ∙ l.invariant.0,
-      below_more (λ (j : ℕ). get_or (set l.worlds l.i c.set-at.result) j 0 ≡ set_at s (8 * j)) l.i
-          (λ j h. let ne : j ≢ l.i = omega arith in get_or-set_other l.worlds l.i j c.set-at.result 0 ne ∙ l.invariant.1 j h)
-          (get_or-set_same l.worlds l.i c.set-at.result 0 at ∙ c.set-at.ensures),
+      length-set l.worlds l.i c.set_at.result ∙ l.invariant.0,
+      below_more (λ (j : ℕ). get_or (set l.worlds l.i c.set_at.result) j 0 ≡ set_at s (8 * j)) l.i
+          (λ j h. let ne : j ≢ l.i = omega arith in get_or-set_other l.worlds l.i j c.set_at.result 0 ne ∙ l.invariant.1 j h)
+          (get_or-set_same l.worlds l.i c.set_at.result 0 at ∙ c.set_at.ensures),
     )
 
 pub returns : goal.returns

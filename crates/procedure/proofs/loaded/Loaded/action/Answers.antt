@@ -14,8 +14,8 @@ returns-in-err-frame c = λ p e.
     let there : c.args.number < length t.whole.rest.actions = omega (arith, long, k.actions_are, c.if-number-self.false) in
     absurd (c.in-err-frame.ensures.value t.whole t.frames there)
 
-pub action-of-requires : goal.action-of-requires
-action-of-requires c =
+pub action_of-requires : goal.action_of-requires
+action_of-requires c =
     let l = c.args.self.now in
     let k = kept (procedure_of l.file.now) l.n l.goal.trues l.goal.falses l.actions l.plan l.len l.held in
     (c.in-ok-frame.ensures.fits, subst (λ (n : ℕ). n ≤ 64) k.n_is (few_fluents l.file.now k.p k.is))
@@ -32,5 +32,5 @@ returns c = λ p e.
     let there : c.args.number < length t.whole.rest.actions = omega (arith, long, within) in
     let frame = c.in-ok-frame.ensures.value t.whole t.frames there in
     let act = acts_at p.n t.whole.rest.actions p.actions c.args.number frame.0 t.acts there frame.1 in
-    asked c.action-of.result l.n frame.0 p.actions c.args.number act.0 within
-    (subst (λ (m : ℕ). act_of m frame.0 ≡ Ok act.0) n act.1) act.2 (c.action-of.ensures.value frame.0 frame.2 frame.3)
+    asked c.action_of.result l.n frame.0 p.actions c.args.number act.0 within
+    (subst (λ (m : ℕ). act_of m frame.0 ≡ Ok act.0) n act.1) act.2 (c.action_of.ensures.value frame.0 frame.2 frame.3)

@@ -42,5 +42,5 @@ pub returns-in-Ok : goal.returns-in-Ok
 returns-in-Ok c =
     let has = c.in-Ok.ensures in (
       ap (λ v. v.loaded.file) c.put.ensures ∙ c.file.ensures,
-      (has.0, has.1, subst (λ start. Gives start c.args.list.now c.contents-of.new.list has.0.start) (sym (ap (λ v. v.start) c.put.ensures)) has.3),
+      (has.0, has.1, subst (λ start. Gives start c.args.list.now c.contents_of.new.list has.0.start) (sym (ap (λ v. v.start) c.put.ensures)) has.3),
     )
