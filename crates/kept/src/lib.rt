@@ -4,6 +4,8 @@
 // type invariant (a ghost field), as `Result<Selected<'a>, Fault>`. A struct with an `owns` field
 // is opaque to them, so `Result<Kept<Selected<'a>>, Fault>` is covered. `Kept` takes no memory of
 // its own: it is its value.
+#![tactic(auto)]
+
 ghost use Rattle.std.specs.Prelude.{◌≡◌};
 ghost use Rattle.std.specs.Borrow.{ftrue};
 

@@ -2,14 +2,14 @@
 use Rattle.std.proofs.Common.{◌≡◌, List, [], ◌∷◌, ◌++◌, sym, refl, ap, ◌∙◌, subst}
 use seplogic.Ra.Ura.{Ura}
 use mir.Syntax.{Fn, a_type}
-use mir.Val.{Val, vstruct, vcons, vnil, of_list}
+use mir.Val.{Val, vstruct, of_list}
 use mir.MapTy.{inst_fn}
-use base.Logic.{SProp, ent, sep, via, fst∗, snd∗}
+use base.Logic.{SProp, ent, sep}
 use prog.Memory.{Memory}
 use prog.Routine.{Routine}
 use prog.Wp.{Calls, Loops, WpFn, Tables}
 use types.Logic.{Logic, sem}
-use contract.Monad.{Fun, fact_use}
+use contract.Monad.{Fun}
 use contract.Running.{tables, tables_of}
 use sound.WpLaws.{WpFn-mono}
 use types.Kit.{‵, raw, ◌⊛◌, ◌$◌, ◌∵◌, !, qed, by, move, keep, split, join, fsplit, fjoin, suffices, done, fpick, feq_l, rewrite, updating, now}
@@ -19,14 +19,14 @@ use types.ByLocal.{alloc_all, pass_all, free_all, look_at, get, sets, get_in}
 use types.Part.{sub, whole}
 use denote.Exit.{no}
 use denote.RattleType.{RattleType, owns}
-use denote.Laws.{Are, Ises, Lawful, owns_show, showss, Is, shows}
-use denote.Signature.{types_at, plain}
+use denote.Laws.{Lawful, Is, shows}
+use denote.Signature.{plain}
 use denote.Steps.{nothing, peeks}
 use denote.Param.{layout, layouts, param}
 use denote.Param.Laws.{param_laws}
 use denote.Struct.Struct.{as_fields}
 use denote.Triple.Clauses.{Clauses, closing}
-use denote.Triple.Entry.{on_entry, alive}
+use denote.Triple.Entry.{alive}
 use denote.Triple.Spec.{Meets, triple_of}
 use denote.Triple.Table.{entered}
 use denote.Triple.Walked.{Stays, stay_dropped, walk_of, ends_at, Goes, walk_Meets, says}
