@@ -23,70 +23,70 @@ refused : (s : List ℕ) (fault : Fault) → ((i : ℕ) → Fits w8 (get_or s i 
 refused s fault typed value =
     record { value = value; strings = strings s false (below_256 s typed) (sym (ap is_ok value)); spoiled = spoiled_refused s (below_256 s typed) }
 
-pub returns-in-err-header : goal.returns-in-err-header
-returns-in-err-header c =
-    let p = err_from_is_err_and c.from-residual.result c.from-residual.ensures.1 in
+pub returns-in_err-header : goal.returns-in_err-header
+returns-in_err-header c =
+    let p = err_from_is_err_and c.from_residual.result c.from_residual.ensures.1 in
     let s = c.args.file.now in
-    let fault = c.in-err-header.field-0.0 in
-    let value = frames_refused s fault c.in-err-header.ensures in
-    rw (p.1, p.2) (refused s fault c.type-inv.file value)
+    let fault = c.in_err-header.field-0.0 in
+    let value = frames_refused s fault c.in_err-header.ensures in
+    rw (p.1, p.2) (refused s fault c.type_inv.file value)
 
-pub returns-in-err-body : goal.returns-in-err-body
-returns-in-err-body c =
-    let p = err_from_is_err_and c.from-residual-in-err-body.result c.from-residual-in-err-body.ensures.1 in
+pub returns-in_err-body : goal.returns-in_err-body
+returns-in_err-body c =
+    let p = err_from_is_err_and c.from_residual-in_err-body.result c.from_residual-in_err-body.ensures.1 in
     let s = c.args.file.now in
-    let read = c.in-ok-header.ensures in
-    let ended : c.end.result ≡ after_at s 0 = end_at s 0 Header c.in-ok-header.header read.0 read.1 (omega arith) c.end.ensures in
-    let fault = c.in-err-body.field-0.0 in
-    let value = frames_err s c.end.result fault read.0 ended c.in-err-body.ensures in
-    rw (p.1, p.2) (refused s fault c.type-inv.file value)
+    let read = c.in_ok-header.ensures in
+    let ended : c.end.result ≡ after_at s 0 = end_at s 0 Header c.in_ok-header.header read.0 read.1 (omega arith) c.end.ensures in
+    let fault = c.in_err-body.field-0.0 in
+    let value = frames_err s c.end.result fault read.0 ended c.in_err-body.ensures in
+    rw (p.1, p.2) (refused s fault c.type_inv.file value)
 
-pub returns-in-err-last : goal.returns-in-err-last
-returns-in-err-last c =
-    let p = err_from_is_err_and c.from-residual-in-err-last.result c.from-residual-in-err-last.ensures.1 in
+pub returns-in_err-last : goal.returns-in_err-last
+returns-in_err-last c =
+    let p = err_from_is_err_and c.from_residual-in_err-last.result c.from_residual-in_err-last.ensures.1 in
     let s = c.args.file.now in
-    let read = c.in-ok-header.ensures in
-    let ended : c.end.result ≡ after_at s 0 = end_at s 0 Header c.in-ok-header.header read.0 read.1 (omega arith) c.end.ensures in
-    let body = c.in-ok-body.body in
-    let fault = c.in-err-last.field-0.0 in
+    let read = c.in_ok-header.ensures in
+    let ended : c.end.result ≡ after_at s 0 = end_at s 0 Header c.in_ok-header.header read.0 read.1 (omega arith) c.end.ensures in
+    let body = c.in_ok-body.body in
+    let fault = c.in_err-last.field-0.0 in
     let value =
     frames_err s c.end.result fault read.0 ended
-    (c.in-ok-body.ensures.0 ∙ ap (outline_from body.actions) (start_refused s (frame_at s body.plan) body.end fault c.in-err-last.ensures)) in
-    rw (p.1, p.2) (refused s fault c.type-inv.file value)
+    (c.in_ok-body.ensures.0 ∙ ap (outline_from body.actions) (start_refused s (frame_at s body.plan) body.end fault c.in_err-last.ensures)) in
+    rw (p.1, p.2) (refused s fault c.type_inv.file value)
 
 pub returns-then-past-file : goal.returns-then-past-file
 returns-then-past-file c =
     let s = c.args.file.now in
-    let read = c.in-ok-header.ensures in
-    let ended : c.end.result ≡ after_at s 0 = end_at s 0 Header c.in-ok-header.header read.0 read.1 (omega arith) c.end.ensures in
-    let body = c.in-ok-body.body in
-    let last = c.in-ok-last.ensures in
-    let past : c.end-past.result ≡ after_at s body.end = end_at s body.end Start c.in-ok-last.last last.0 last.1 (omega arith) c.end-past.ensures in
+    let read = c.in_ok-header.ensures in
+    let ended : c.end.result ≡ after_at s 0 = end_at s 0 Header c.in_ok-header.header read.0 read.1 (omega arith) c.end.ensures in
+    let body = c.in_ok-body.body in
+    let last = c.in_ok-last.ensures in
+    let past : c.end-past.result ≡ after_at s body.end = end_at s body.end Start c.in_ok-last.last last.0 last.1 (omega arith) c.end-past.ensures in
     let more : after_at s body.end < length s = omega (arith, past, c.if-past-file.true) in
     let fault = fault_at UnexpectedKind c.end-past.result in
     let value =
     frames_err s c.end.result fault read.0 ended
-    (c.in-ok-body.ensures.0
+    (c.in_ok-body.ensures.0
     ∙ ap (outline_from body.actions) (start_past s (frame_at s body.plan) body.end last.0 more)
     ∙ ap (λ (n : ℕ). Err (fault_at UnexpectedKind n)) (sym past)) in
-    refused s fault c.type-inv.file value
+    refused s fault c.type_inv.file value
 
-pub invariant-of-put : goal.invariant-of-put
-invariant-of-put c =
+pub invariant_of-put : goal.invariant_of-put
+invariant_of-put c =
     let s = c.args.file.now in
-    let read = c.in-ok-header.ensures in
-    let ended : c.end.result ≡ after_at s 0 = end_at s 0 Header c.in-ok-header.header read.0 read.1 (omega arith) c.end.ensures in
-    let body = c.in-ok-body.body in
-    let last = c.in-ok-last.ensures in
-    let past : c.end-past.result ≡ after_at s body.end = end_at s body.end Start c.in-ok-last.last last.0 last.1 (omega arith) c.end-past.ensures in
+    let read = c.in_ok-header.ensures in
+    let ended : c.end.result ≡ after_at s 0 = end_at s 0 Header c.in_ok-header.header read.0 read.1 (omega arith) c.end.ensures in
+    let body = c.in_ok-body.body in
+    let last = c.in_ok-last.ensures in
+    let past : c.end-past.result ≡ after_at s body.end = end_at s body.end Start c.in_ok-last.last last.0 last.1 (omega arith) c.end-past.ensures in
     let done : length s ≤ after_at s body.end = omega (arith, past, c.if-past-file.false) in
     let lies = outline body.actions body.plan body.end in
     let value =
     frames_outline s c.end.result (Ok lies) read.0 ended
-    (c.in-ok-body.ensures.0
+    (c.in_ok-body.ensures.0
     ∙ ap (outline_from body.actions) (start_last s (frame_at s body.plan) body.end last.0 done)
     ∙ ap (λ (n : ℕ). Ok (outline n body.plan body.end)) (add-zero body.actions)) in
-    (laid_from (outline_of (frames_of s)) body.actions body.plan body.end value, tt)
+    record { laid = laid_from (outline_of (frames_of s)) body.actions body.plan body.end value }
 
 pub returns : goal.returns
 returns c =
@@ -97,5 +97,5 @@ returns c =
     let value : outline_of (frames_of s) ≡ Ok lies =
     subst (λ f. outline_of (frames_of f.now) ≡ Ok lies) lent
     (laid_is (outline_of (frames_of made.file.now)) made.actions made.plan made.start made.laid) in
-    let small = below_256 s c.type-inv.file in
+    let small = below_256 s c.type_inv.file in
     record { value = (lent, value); strings = strings s true small (sym (outline_ok (frames_of s) lies value)); spoiled = spoiled_refused s small }
