@@ -11,7 +11,14 @@ fit : (w i : ℕ) → w < 2 ^ 64 → get_or (w ∷ replicate 63 0) i 0 < 2 ^ 64
 fit w zero h = h
 fit w (suc i) h = subst (λ (n : ℕ). n < 2 ^ 64) (sym (zeros 63 i)) (lit< tt)
 
-pub invariant-of-result : goal.invariant-of-result
-invariant-of-result c =
+pub invariant_of-result : goal.invariant_of-result
+invariant_of-result c =
     let w = c.args.world in
-    (omega arith, (omega arith, (refl, ((λ i j lt h. absurd (omega arith)), (blank w, ((λ i. fit w i c.ranges.world.fits), tt))))))
+    record {
+      some = omega arith;
+      few = omega arith;
+      long = refl;
+      ascends = λ i j lt h. absurd (omega arith);
+      blank = blank w;
+      fit = λ i. fit w i c.ranges.world.fits;
+    }

@@ -4,15 +4,17 @@ use Rattle.fluents.specs.Sets.{Apart, Within, union, minus}
 use Rattle.knowledge.proofs.Extending.{step_fits, after_apart, after_extends, earlier, earlier_within, earlier_apart, earlier_after, earlier_fits}
 use Rattle.knowledge.proofs.states.kind.PartialStateKnowledge.apply.Goals as goal
 
-pub invariant-of-result : goal.invariant-of-result
-invariant-of-result c =
+pub invariant_of-result : goal.invariant_of-result
+invariant_of-result c =
     let s = c.args.self in
     let add = c.add-add.result in
     let del = c.del-del.result in
-    let effects : Apart add del = ap₂ bit_and c.add-add.ensures c.del-del.ensures ∙ c.args.action.apart in (
-      after_apart s.trues s.falses add del s.apart effects,
-      (step_fits s.trues del add s.fit c.add-add.type-inv, (step_fits s.falses add del s.fit_falses c.del-del.type-inv, tt)),
-    )
+    let effects : Apart add del = ap₂ bit_and c.add-add.ensures c.del-del.ensures ∙ c.args.action.apart in
+    record {
+      apart = after_apart s.trues s.falses add del s.apart effects;
+      fit = step_fits s.trues del add s.fit c.add-add.type_inv;
+      fit_falses = step_fits s.falses add del s.fit_falses c.del-del.type_inv;
+    }
 
 pub returns : goal.returns
 returns c =
@@ -38,7 +40,7 @@ returns c =
             let v = h.0 in
             let e : w ≡ union (minus v del) add = h.2 ∙ sym (same v) in
             let on = after_extends s.trues s.falses add del s.apart effects v h.1.1 h.1.2 in (
-              subst (λ (n : ℕ). n < 2 ^ 64) (sym e) (step_fits v del add h.1.0 c.add-add.type-inv),
+              subst (λ (n : ℕ). n < 2 ^ 64) (sym e) (step_fits v del add h.1.0 c.add-add.type_inv),
               subst (Within (union (minus s.trues del) add)) (sym e) on.0,
               subst (Apart (union (minus s.falses add) del)) (sym e) on.1,
             )),

@@ -12,14 +12,16 @@ returns-then-self-alone-ne0 c =
     let has = not_apart_has s.falses i (λ h. c.if-self-alone-ne0.true (ap (bit_and s.falses) c.alone-alone.ensures ∙ h)) in
     record { fields = tt; meaning = (c.contradiction.ensures, λ w x holds. true_not_false (sym (holds ∙ c.if-literal.true) ∙ apart_members s.falses w x.2 i has)) }
 
-pub invariant-of-result : goal.invariant-of-result
-invariant-of-result c =
+pub invariant_of-result : goal.invariant_of-result
+invariant_of-result c =
     let s = c.args.self in
     let i = c.args.literal.fluent.index in
-    let out : bit s.falses i ≡ false = apart_has_not s.falses i (ap (bit_and s.falses) (sym c.alone-alone.ensures) ∙ c.if-self-alone-ne0.false) in (
-      subst (λ (a : ℕ). Apart (union s.trues a) s.falses) (sym c.alone-alone.ensures) (apart_union s.trues i s.falses s.apart out),
-      (or_lt 64 s.trues c.alone-alone.result s.fit c.alone-alone.type-inv, (s.fit_falses, tt)),
-    )
+    let out : bit s.falses i ≡ false = apart_has_not s.falses i (ap (bit_and s.falses) (sym c.alone-alone.ensures) ∙ c.if-self-alone-ne0.false) in
+    record {
+      apart = subst (λ (a : ℕ). Apart (union s.trues a) s.falses) (sym c.alone-alone.ensures) (apart_union s.trues i s.falses s.apart out);
+      fit = or_lt 64 s.trues c.alone-alone.result s.fit c.alone-alone.type_inv;
+      fit_falses = s.fit_falses;
+    }
 
 pub returns-else-self-alone-ne0 : goal.returns-else-self-alone-ne0
 returns-else-self-alone-ne0 c =
@@ -47,15 +49,17 @@ returns-then-self-alone-ne0-2 c =
     let has = not_apart_has s.trues i (λ h. c.if-self-alone-ne0-2.true (ap (bit_and s.trues) c.alone-alone.ensures ∙ h)) in
     record { fields = tt; meaning = (c.contradiction-then-self-alone-ne0-2.ensures, λ w x holds. true_not_false (sym (within_members s.trues w x.1 i has) ∙ holds ∙ c.if-literal.false)) }
 
-pub invariant-of-result-else-literal : goal.invariant-of-result-else-literal
-invariant-of-result-else-literal c =
+pub invariant_of-result-else-literal : goal.invariant_of-result-else-literal
+invariant_of-result-else-literal c =
     let s = c.args.self in
     let i = c.args.literal.fluent.index in
     let out : bit s.trues i ≡ false = apart_has_not s.trues i (ap (bit_and s.trues) (sym c.alone-alone.ensures) ∙ c.if-self-alone-ne0-2.false) in
-    let apart : Apart (union s.falses (only i)) s.trues = apart_union s.falses i s.trues (and_comm s.falses s.trues ∙ s.apart) out in (
-      subst (λ (a : ℕ). Apart s.trues (union s.falses a)) (sym c.alone-alone.ensures) (and_comm s.trues (union s.falses (only i)) ∙ apart),
-      (s.fit, (or_lt 64 s.falses c.alone-alone.result s.fit_falses c.alone-alone.type-inv, tt)),
-    )
+    let apart : Apart (union s.falses (only i)) s.trues = apart_union s.falses i s.trues (and_comm s.falses s.trues ∙ s.apart) out in
+    record {
+      apart = subst (λ (a : ℕ). Apart s.trues (union s.falses a)) (sym c.alone-alone.ensures) (and_comm s.trues (union s.falses (only i)) ∙ apart);
+      fit = s.fit;
+      fit_falses = or_lt 64 s.falses c.alone-alone.result s.fit_falses c.alone-alone.type_inv;
+    }
 
 pub returns-else-self-alone-ne0-2 : goal.returns-else-self-alone-ne0-2
 returns-else-self-alone-ne0-2 c =
