@@ -1,12 +1,11 @@
 -- The laws of sets of fluents: every other crate reasons about sets by these. Assumes nothing.
-use Rattle.std.proofs.Common.{◌≡◌, ℕ, zero, suc, ◌+◌, ◌*◌, ◌/◌, ◌%◌, ◌^◌, ◌<◌, ◌≤◌, Bool, true, false, not, ◌&&◌, ◌||◌, T, eqb, ◌⊎◌, sym, refl, ap, ◌∙◌, subst, ap₂, inl, inr, le_trans, mod-lt, zero-lt-suc, add_comm, pow-suc, div-add-mod', mul-div_cancel, add-one, arith, pow_pos, pow_mono, shr-shr, eq-eqb, ne_eqb, eqb-true}
+use Rattle.std.proofs.Common.{◌≡◌, ℕ, zero, suc, ◌/◌, ◌%◌, ◌^◌, ◌<◌, ◌≤◌, Bool, true, false, not, ◌&&◌, ◌||◌, T, eqb, ◌⊎◌, sym, refl, ap, ◌∙◌, subst, inl, inr, le_trans, mod-lt, zero-lt-suc, add_comm, pow-suc, mul-div_cancel, add-one, arith, pow_mono, shr-shr}
 use lib.Arith.{bin_ind}
 use lib.Bits.{bit_and, bit_or, bit_xor, and_shr, or_shr, xor_shr, and_mod, or_mod, xor_mod, and_mask, and_le_r, and_comm}
 use lib.Dec.{eqb-zero-suc, eqb-suc-zero, eqb-suc-suc}
 use native.Mathlib.Nat.{div-eq_of_lt, mul-mod_left}
 use Rattle.std.proofs.lemmas.Bool.{cases_lt}
-use borrow.Author.Tests.{eqb-false}
-use Rattle.fluents.specs.Sets.{bit, Has, only, union, minus, Apart, Within}
+use Rattle.fluents.specs.Sets.{bit, only, union, minus, Apart, Within}
 
 -- ---- one binary digit
 

@@ -1,4 +1,4 @@
-use Rattle.std.proofs.Common.{◌/◌, ◌^◌, eqb, sym, ap, ◌∙◌, arith, le-ltb}
+use Rattle.std.proofs.Common.{◌/◌, ◌^◌, eqb, sym, ap, ◌∙◌, le-ltb}
 use Rattle.fluents.proofs.Bits.{low_digit, bit-above}
 use Rattle.fluents.proofs.sets.has.Goals as goal
 
