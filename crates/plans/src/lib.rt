@@ -1,6 +1,8 @@
 // Plans: trees of actions written as bytes, each node before what follows it. This crate checks that
 // the bytes spell a tree, that its actions are of the right sorts, and that no path has too many
 // readings.
+#![tactic(auto)]
+
 ghost use Rattle.std.specs.Prelude.{◌≡◌, ◌<◌, ◌≤◌, true, length, drop, is_ok, IfErr, if◌then◌else◌, Some, None, Ok, Err, MatchResult, nat_lt, slice_index};
 ghost use Rattle.fluents.specs.Sets.{bit};
 ghost use Rattle.fluents.specs.declared.faults.Refusal.TheVariants.{BadPlan, TooManyReadings};
