@@ -1,4 +1,6 @@
 // Load: the procedure of a selected file, and its start.
+#![tactic(auto)]
+
 mod acts;
 mod contents;
 mod fields;
