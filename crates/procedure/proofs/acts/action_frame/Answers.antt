@@ -9,13 +9,13 @@ use Rattle.procedure.proofs.acts.action_frame.Goals as goal
 pub loop-k-init : goal.loop-k-init
 loop-k-init c = λ whole e h. reached_first c.args.file.now whole e
 
-pub returns-in-default : goal.returns-in-default
-returns-in-default c =
+pub returns-in_default : goal.returns-in_default
+returns-in_default c =
     record {
       fits = tt;
       value = λ whole e h.
           let l = c.loop-k in
-          some_none (sym c.in-default.ensures.0 ∙ (reached_next c.args.file.now whole l.k l.place (l.invariant whole e h) (omega (arith, h, c.loop-k-test.true))).sound);
+          some_none (sym c.in_default.ensures.0 ∙ (reached_next c.args.file.now whole l.k l.place (l.invariant whole e h) (omega (arith, h, c.loop-k-test.true))).sound);
     }
 
 pub loop-k-preserved : goal.loop-k-preserved
@@ -26,15 +26,15 @@ loop-k-preserved c = λ whole e h.
     let ended : c.end-place.result ≡ after_at s l.place = end_at s l.place (Body l.k) c.in-Ok.frame read.0 read.1 (omega arith) c.end-place.ensures in
     subst (λ (q : ℕ). Reached s whole (l.k + 1) q) (sym ended) (reached_more s whole l.k l.place (l.invariant whole e h) (omega (arith, h, c.loop-k-test.true)))
 
-pub returns-in-default-read : goal.returns-in-default-read
-returns-in-default-read c =
+pub returns-in_default-read : goal.returns-in_default-read
+returns-in_default-read c =
     record {
       fits = tt;
       value = λ whole e h.
           let l = c.loop-k in
           let last : l.k ≡ c.args.number = omega (arith, c.loop-k-test.false, l.auto.k-end) in
           let r = subst (λ (k : ℕ). Reached c.args.file.now whole k l.place) last (l.invariant whole e h) in
-          some_none (sym c.in-default-read.ensures.0 ∙ (reached_next c.args.file.now whole c.args.number l.place r h).sound);
+          some_none (sym c.in_default-read.ensures.0 ∙ (reached_next c.args.file.now whole c.args.number l.place r h).sound);
     }
 
 pub returns : goal.returns

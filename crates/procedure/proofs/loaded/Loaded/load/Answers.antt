@@ -9,8 +9,8 @@ use Rattle.procedure.proofs.Joining.{laid}
 use Rattle.procedure.proofs.Walking.{tail_of}
 use Rattle.procedure.proofs.loaded.Loaded.load.Goals as goal
 
-pub overflow-add-loaded : goal.overflow-add-loaded
-overflow-add-loaded c =
+pub overflow_add-loaded : goal.overflow_add-loaded
+overflow_add-loaded c =
     let sel = c.args.selected in
     let s = sel.file.now in
     let l = laid s sel.actions sel.plan sel.start sel.laid in

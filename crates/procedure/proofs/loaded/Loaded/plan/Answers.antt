@@ -5,8 +5,8 @@ use Rattle.procedure.proofs.Holding.{kept, plan_lies, nodes_stand}
 use Rattle.procedure.proofs.Walking.{ok_same}
 use Rattle.procedure.proofs.loaded.Loaded.plan.Goals as goal
 
-pub overflow-add-result : goal.overflow-add-result
-overflow-add-result c =
+pub overflow_add-result : goal.overflow_add-result
+overflow_add-result c =
     let l = c.args.self.now in
     let k = kept (procedure_of l.file.now) l.n l.goal.trues l.goal.falses l.actions l.plan l.len l.held in
     let lies = (plan_lies l.file.now k.p k.is).0 in
