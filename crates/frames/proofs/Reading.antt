@@ -1,11 +1,11 @@
 -- What a frame without a flaw is, and how the frames of a file follow one another. Assumes nothing.
-use Rattle.std.proofs.Common.{◌≡◌, ℕ, zero, suc, ◌+◌, ◌-◌, ◌^◌, ◌<◌, ◌≤◌, min, Bool, true, false, cond, ◌&&◌, eqb, ltb, leb, List, [], ◌∷◌, length, take, drop, Some, None, Ok, Err, Option, Result, sym, refl, ap, ◌∙◌, subst, arith, length-drop, length-take, le-ltb, lt-ltb, eq-eqb, eqb-true, leb-true}
+use Rattle.std.proofs.Common.{◌≡◌, ℕ, zero, suc, ◌+◌, ◌-◌, ◌^◌, ◌<◌, ◌≤◌, min, Bool, true, false, cond, ◌&&◌, eqb, ltb, leb, List, [], length, drop, Some, None, Ok, Err, Option, Result, sym, refl, ap, ◌∙◌, subst, arith, length-drop, length-take, le-ltb, lt-ltb, eq-eqb, eqb-true, leb-true}
 use Rattle.fluents.specs.Refusals.{fault_at}
 use Rattle.fluents.specs.declared.faults.Fault.{Fault}
 use Rattle.fluents.specs.declared.faults.Refusal.{Refusal}
 use Rattle.fluents.specs.declared.faults.Refusal.TheVariants.{Incomplete, WrongSum, UnexpectedKind, UnfitLength, TooManyActions}
 use Rattle.frames.specs.Frames.{Frame, frame_at, after_at, length_at, kind_at, is_whole, sum_holds, is_due, is_excess, is_fit, is_action, flaw_at}
-use Rattle.frames.specs.Files.{Rest, File, Outline, outline, unless, with_action, with_header, start_from, rest_from, frames_of, outline_from, outline_of, is_laid}
+use Rattle.frames.specs.Files.{Rest, Outline, outline, unless, with_action, with_header, start_from, rest_from, frames_of, outline_from, outline_of, is_laid}
 use Rattle.frames.specs.Seen.{Shows, payload_of}
 use Rattle.frames.specs.declared.frame.Due.{Due}
 use Rattle.frames.specs.declared.frame.Due.TheVariants.{Header, Body, Start}

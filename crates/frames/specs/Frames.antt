@@ -1,5 +1,5 @@
 -- One frame of a file: two bytes length, two bytes kind, the payload, two bytes sum. Assumes nothing.
-use Rattle.std.specs.Prelude.{ℕ, ◌+◌, ◌%◌, Bool, true, false, cond, ◌&&◌, ◌||◌, List, length, take, drop, Some, None, sum, Option, ◌==◌, nat_le}
+use Rattle.std.specs.Prelude.{ℕ, ◌+◌, ◌%◌, Bool, false, cond, ◌&&◌, ◌||◌, List, length, take, drop, Some, None, sum, Option, ◌==◌, nat_le}
 use Rattle.fluents.specs.declared.faults.Refusal.{Refusal}
 use Rattle.fluents.specs.declared.faults.Refusal.TheVariants.{Incomplete, WrongSum, UnexpectedKind, UnfitLength, TooManyActions}
 use Rattle.frames.specs.Bytes.{little}

@@ -1,5 +1,5 @@
 -- The code's frames as the definitions see them. Assumes nothing.
-use Rattle.std.specs.Prelude.{◌≡◌, ℕ, ◌+◌, List}
+use Rattle.std.specs.Prelude.{◌≡◌, ℕ, ◌+◌}
 use Rattle.frames.specs.declared.frame.Frame.{Frame as Held}
 use Rattle.frames.specs.declared.frame.Frame.TheVariants.{Header, Doing, Reading, Plan, PartialStart, WorldStart}
 use Rattle.frames.specs.declared.frame.Payload.{Payload}

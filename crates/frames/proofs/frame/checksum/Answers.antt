@@ -1,4 +1,4 @@
-use Rattle.std.proofs.Common.{◌≡◌, ◌+◌, ◌%◌, get_or, take, sum, ap, ◌∙◌, arith, take_all}
+use Rattle.std.proofs.Common.{◌%◌, sum, ap, ◌∙◌, arith, take_all}
 use Rattle.std.proofs.lemmas.List.Sums.{sum_by_more}
 use Rattle.frames.proofs.frame.checksum.Goals as goal
 

@@ -9,7 +9,7 @@ use Rattle.frames.specs.Frames.{after_at, frame_at}
 use Rattle.frames.specs.Spoiled.{SpoiledRefused}
 use Rattle.frames.specs.Strings.{Composed}
 use Rattle.frames.specs.declared.frame.Due.TheVariants.{Header, Start}
-use Rattle.frames.proofs.Reading.{whole_le, end_at, frames_refused, frames_outline, frames_err, start_refused, start_past, start_last, laid_from, laid_is}
+use Rattle.frames.proofs.Reading.{end_at, frames_refused, frames_outline, frames_err, start_refused, start_past, start_last, laid_from, laid_is}
 use Rattle.frames.proofs.Spoiled.{spoiled_refused}
 use Rattle.frames.proofs.Strings.{outline_ok, strings}
 use Rattle.frames.proofs.selected.Selected.select.Goals as goal

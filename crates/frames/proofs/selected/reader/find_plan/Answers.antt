@@ -1,7 +1,7 @@
-use Rattle.std.proofs.Common.{◌≡◌, ℕ, ◌+◌, ◌-◌, true, false, sym, ap, ◌∙◌, subst, arith}
+use Rattle.std.proofs.Common.{◌≡◌, ℕ, ◌+◌, ◌-◌, true, false, sym, ap, ◌∙◌, arith}
 use Rattle.std.proofs.lemmas.Result.{err_from_is_err_and}
 use Rattle.frames.specs.Files.{outline_from, start_from, rest_from}
-use Rattle.frames.specs.Frames.{frame_at, is_action, after_at, kind_at}
+use Rattle.frames.specs.Frames.{frame_at, is_action, kind_at}
 use Rattle.frames.specs.declared.frame.Due.TheVariants.{Body}
 use Rattle.frames.proofs.Reading.{whole_le, end_at, outline_refused, outline_plan, outline_next}
 use Rattle.frames.proofs.selected.reader.find_plan.Goals as goal
