@@ -5,10 +5,10 @@ use Rattle.plans.proofs.Parses.{plan_complete}
 use Rattle.plans.proofs.Turns.{whole_flawed, whole, left_over, trees, flaws, place}
 use Rattle.plans.proofs.check.Goals as goal
 
-pub returns-in-err-end : goal.returns-in-err-end
-returns-in-err-end c =
-    let p = err_from_is_err_and c.from-residual.result c.from-residual.ensures.1 in
-    let told = p.1 ∙ ap Err p.2 ∙ whole_flawed _ _ c.args.plan.now _ c.in-err-end.ensures in
+pub returns-in_err-end : goal.returns-in_err-end
+returns-in_err-end c =
+    let p = err_from_is_err_and c.from_residual.result c.from_residual.ensures.1 in
+    let told = p.1 ∙ ap Err p.2 ∙ whole_flawed _ _ c.args.plan.now _ c.in_err-end.ensures in
     record {
       value = told;
       trees = trees _ _ c.args.plan.now _ told;
@@ -20,7 +20,7 @@ returns-in-err-end c =
 
 pub returns-then-end-plan : goal.returns-then-end-plan
 returns-then-end-plan c =
-    let told = whole _ _ c.args.plan.now _ c.in-ok-end.ensures c.if-end-plan.true in
+    let told = whole _ _ c.args.plan.now _ c.in_ok-end.ensures c.if-end-plan.true in
     record {
       value = told;
       trees = trees _ _ c.args.plan.now _ told;
@@ -32,7 +32,7 @@ returns-then-end-plan c =
 
 pub returns-else-end-plan : goal.returns-else-end-plan
 returns-else-end-plan c =
-    let told = ap Err c.bad-plan.ensures ∙ left_over _ _ c.args.plan.now _ c.in-ok-end.ensures c.if-end-plan.false in
+    let told = ap Err c.bad_plan.ensures ∙ left_over _ _ c.args.plan.now _ c.in_ok-end.ensures c.if-end-plan.false in
     record {
       value = told;
       trees = trees _ _ c.args.plan.now _ told;
