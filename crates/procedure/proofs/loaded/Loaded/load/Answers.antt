@@ -18,13 +18,14 @@ overflow_add-loaded c =
     let within : c.plan.result + 4 ≤ length s = omega (arith, plan, l.plan_lies_at, c.plan.ensures) in
     search rules
 
-pub invariant-of-loaded : goal.invariant-of-loaded
-invariant-of-loaded c =
+pub invariant_of-loaded : goal.invariant_of-loaded
+invariant_of-loaded c =
     let sel = c.args.selected in
     let found = c.in-Ok.found in
     let has = c.in-Ok.ensures in
-    let says = has.2 in (
-      keeps (procedure_of c.file.result.now) found.n found.goal.trues found.goal.falses c.actions.result (c.plan.result + 4) found.len
+    let says = has.2 in
+    record {
+      held = keeps (procedure_of c.file.result.now) found.n found.goal.trues found.goal.falses c.actions.result (c.plan.result + 4) found.len
           (record {
             p = has.0;
             is = ap (λ f. procedure_of f.now) c.file.ensures ∙ has.1;
@@ -34,9 +35,8 @@ invariant-of-loaded c =
             actions_are = sym says.actions_are ∙ sym c.actions.ensures;
             place_is = sym says.place ∙ ap (λ (n : ℕ). n + 4) (sym c.plan.ensures);
             len_is = sym says.long;
-          }),
-      tt,
-    )
+          });
+    }
 
 pub returns-in-Ok : goal.returns-in-Ok
 returns-in-Ok c =

@@ -13,8 +13,8 @@ overflow_add-result c =
     let within : l.plan + l.len ≤ length l.file.now = omega (arith, lies, k.place_is, k.len_is) in
     search rules
 
-pub slice-bounds-result-end : goal.slice-bounds-result-end
-slice-bounds-result-end c =
+pub slice_bounds-result-end : goal.slice_bounds-result-end
+slice_bounds-result-end c =
     let l = c.args.self.now in
     let k = kept (procedure_of l.file.now) l.n l.goal.trues l.goal.falses l.actions l.plan l.len l.held in
     let lies = (plan_lies l.file.now k.p k.is).0 in
