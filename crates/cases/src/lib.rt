@@ -1,4 +1,6 @@
 // The worked cases: small plans with their rows and verdicts. The table is in specs/, and that it stands is proved.
+#![tactic(auto)]
+
 ghost use Rattle.std.specs.Prelude.{◌≡◌, length};
 ghost use Rattle.cases.specs.Table.{table, AllStand};
 

@@ -1,4 +1,6 @@
 // A client of the panel: it goes through the public calls of a run alone, and ends each run that it begins.
+#![tactic(auto)]
+
 use panel::answers::{Confirmed, Denied, Over, Settled};
 use panel::armed::Armed;
 use panel::armed::keys::Unarmed;

@@ -1,4 +1,6 @@
 // A kind of knowledge of its own: exactly one world is held possible.
+#![tactic(auto)]
+
 ghost use Rattle.std.specs.Prelude.{◌^◌, ◌<◌};
 
 use knowledge::worlds::World;

@@ -1,4 +1,6 @@
 // The panel: a loaded plan is armed under a permit and confirmed step by step.
+#![tactic(auto)]
+
 pub mod answers;
 pub mod armed;
 pub mod known;

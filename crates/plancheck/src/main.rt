@@ -1,4 +1,6 @@
 // Reads a procedure file from standard input, and prints the verdict at its start and its rows, or a refusal.
+#![tactic(auto)]
+
 ghost use Rattle.std.specs.Prelude.{◌≤◌, IfOk, vec_len};
 
 use std::alloc::Global;

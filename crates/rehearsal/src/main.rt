@@ -1,5 +1,7 @@
 // Rehearses a visit to the panel: reads a procedure file from standard input, takes the values of its readings as
 // arguments, and prints a record of what happens.
+#![tactic(auto)]
+
 ghost use Rattle.std.specs.Prelude.{◌≤◌, IfOk, vec_len};
 
 use settlements::{Parsed, parse};

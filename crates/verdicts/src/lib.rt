@@ -1,4 +1,6 @@
 // What is to be said about a procedure file: the verdict at its start and its rows, or a refusal.
+#![tactic(auto)]
+
 ghost use Rattle.std.specs.Prelude.{◌≡◌, Ok};
 ghost use Rattle.procedure.specs.Procedures.{Procedure, procedure_of};
 ghost use Rattle.verdicts.specs.Reports.{Found, Reported};

@@ -3,8 +3,8 @@ use Rattle.procedure.specs.Acts.{act_seen}
 use Rattle.meaning.proofs.Loading.{doing_there, act_at_none, act_at_get_d}
 use Rattle.meaning.proofs.nodes.doing_node.Goals as goal
 
-pub returns-in-default : goal.returns-in-default
-returns-in-default c = λ p e does.
+pub returns-in_default : goal.returns-in_default
+returns-in_default c = λ p e does.
     let there = doing_there p.actions c.args.number does in
     let none = act_at_none p.actions c.args.number (c.in-default.ensures p e) in
     let found = there.3 in

@@ -47,21 +47,21 @@ at_reading acts gap s k r l n h0 h1 h3 f = absurd (h3 l.1)
 pub returns-then-at-plan : goal.returns-then-at-plan
 returns-then-at-plan c = λ p e q node.
     let v = c.plan-plan.ensures.value p e in
-    let l = node_leads p c.plan-plan.result.bytes.now c.plan-plan.result.place c.saturating-sub-at.result c.args.place q v.0 v.1 c.saturating-sub-at.ensures node in
-    outside q c.plan-plan.result.bytes.now c.saturating-sub-at.result l.0 c.if-at-plan.true
+    let l = node_leads p c.plan-plan.result.bytes.now c.plan-plan.result.place c.saturating_sub-at.result c.args.place q v.0 v.1 c.saturating_sub-at.ensures node in
+    outside q c.plan-plan.result.bytes.now c.saturating_sub-at.result l.0 c.if-at-plan.true
 
 pub returns-then-kind-eq-END : goal.returns-then-kind-eq-END
 returns-then-kind-eq-END c = λ p e q node.
     let v = c.plan-plan.ensures.value p e in
-    let l = node_leads p c.plan-plan.result.bytes.now c.plan-plan.result.place c.saturating-sub-at.result c.args.place q v.0 v.1 c.saturating-sub-at.ensures node in
-    at_end p.actions q c.plan-plan.result.bytes.now c.saturating-sub-at.result l.0 c.if-kind-eq-END.true
+    let l = node_leads p c.plan-plan.result.bytes.now c.plan-plan.result.place c.saturating_sub-at.result c.args.place q v.0 v.1 c.saturating_sub-at.ensures node in
+    at_end p.actions q c.plan-plan.result.bytes.now c.saturating_sub-at.result l.0 c.if-kind-eq-END.true
 
 pub returns-then-kind-eq-GAP : goal.returns-then-kind-eq-GAP
 returns-then-kind-eq-GAP c = λ p e q node.
     let v = c.plan-plan.ensures.value p e in
     let s = c.plan-plan.result.bytes.now in
-    let k = c.saturating-sub-at.result in
-    let l = node_leads p s c.plan-plan.result.place k c.args.place q v.0 v.1 c.saturating-sub-at.ensures node in
+    let k = c.saturating_sub-at.result in
+    let l = node_leads p s c.plan-plan.result.place k c.args.place q v.0 v.1 c.saturating_sub-at.ensures node in
     let ways : (get_or s k 0 ≡ 3) ⊎ (length s ≤ k + 1) = elim c.then-kind-eq-GAP.branch [
       | then-kind-eq-GAP-via-then-kind-eq-GAP w ↦ inl w.if-kind-eq-GAP.true
       | then-kind-eq-GAP-via-else-kind-eq-GAP+then-at-plan-2 w ↦ inr w.if-at-plan-2.true
@@ -72,15 +72,15 @@ pub returns-then-kind-eq-DOING : goal.returns-then-kind-eq-DOING
 returns-then-kind-eq-DOING c = λ p e q node.
     let v = c.plan-plan.ensures.value p e in
     let s = c.plan-plan.result.bytes.now in
-    let k = c.saturating-sub-at.result in
-    let l = node_leads p s c.plan-plan.result.place k c.args.place q v.0 v.1 c.saturating-sub-at.ensures node in
-    at_doing p.actions q s k c.doing-node.result l.0 (node_named c.args.loaded.now.file.now p e c.args.place q node) c.if-kind-eq-DOING.true (c.doing-node.ensures p e)
+    let k = c.saturating_sub-at.result in
+    let l = node_leads p s c.plan-plan.result.place k c.args.place q v.0 v.1 c.saturating_sub-at.ensures node in
+    at_doing p.actions q s k c.doing_node.result l.0 (node_named c.args.loaded.now.file.now p e c.args.place q node) c.if-kind-eq-DOING.true (c.doing_node.ensures p e)
 
 pub returns-else-kind-eq-DOING : goal.returns-else-kind-eq-DOING
 returns-else-kind-eq-DOING c = λ p e q node.
     let v = c.plan-plan.ensures.value p e in
     let s = c.plan-plan.result.bytes.now in
-    let k = c.saturating-sub-at.result in
-    let l = node_leads p s c.plan-plan.result.place k c.args.place q v.0 v.1 c.saturating-sub-at.ensures node in
-    at_reading p.actions q s k c.reading-node.result l.0 (node_named c.args.loaded.now.file.now p e c.args.place q node)
-    c.if-kind-eq-END.false c.if-kind-eq-DOING.false c.if-kind-eq-GAP.false (c.reading-node.ensures p e)
+    let k = c.saturating_sub-at.result in
+    let l = node_leads p s c.plan-plan.result.place k c.args.place q v.0 v.1 c.saturating_sub-at.ensures node in
+    at_reading p.actions q s k c.reading_node.result l.0 (node_named c.args.loaded.now.file.now p e c.args.place q node)
+    c.if-kind-eq-END.false c.if-kind-eq-DOING.false c.if-kind-eq-GAP.false (c.reading_node.ensures p e)

@@ -31,8 +31,8 @@ overflow-add-place t c =
     let long : c.args.place + 2 ≤ length l.file.now = omega (arith, inside.0, inside.1, rest.1) in
     search rules
 
-pub rows-at-requires : goal.rows-at-requires
-rows-at-requires t c =
+pub rows_at-requires : goal.rows_at-requires
+rows_at-requires t c =
     let l = c.args.loaded.now in
     let w = c.requires in
     let inside = stands_within l c.args.place w in
@@ -41,21 +41,21 @@ rows-at-requires t c =
 
 pub returns-in-err-rest : goal.returns-in-err-rest
 returns-in-err-rest t c = λ p is q node.
-    let e = err_from_is_err_and c.from-residual.result c.from-residual.ensures.1 in
+    let e = err_from_is_err_and c.from_residual.result c.from_residual.ensures.1 in
     rw (e.1, e.2) (act_err p c.args.place q node c.in-Doing.number c.in-Doing.action (c.in-Doing.ensures p is q node) _ (λ u at. c.in-err-rest.ensures p is u at))
 
 pub returns-in-err-listed : goal.returns-in-err-listed
 returns-in-err-listed t c = λ p is q node.
-    let e = err_from_is_err_and c.from-residual-in-err-listed.result c.from-residual-in-err-listed.ensures.1 in
+    let e = err_from_is_err_and c.from_residual-in-err-listed.result c.from_residual-in-err-listed.ensures.1 in
     rw (e.1, e.2)
-    (act_rows p c.args.place q node c.in-Doing.number c.in-Doing.action (c.in-Doing.ensures p is q node) c.as-slice.result.now c.in-ok-rest.rest.end _
-    (λ u at. let got = c.in-ok-rest.ensures p is u at in (got.0 ∙ ap Ok (sym c.as-slice.ensures), got.1))
+    (act_rows p c.args.place q node c.in-Doing.number c.in-Doing.action (c.in-Doing.ensures p is q node) c.as_slice.result.now c.in-ok-rest.rest.end _
+    (λ u at. let got = c.in-ok-rest.ensures p is u at in (got.0 ∙ ap Ok (sym c.as_slice.ensures), got.1))
     c.in-err-listed.ensures).0
 
 pub returns-in-ok-listed : goal.returns-in-ok-listed
 returns-in-ok-listed t c = λ p is q node.
-    act_rows p c.args.place q node c.in-Doing.number c.in-Doing.action (c.in-Doing.ensures p is q node) c.as-slice.result.now c.in-ok-rest.rest.end _
-    (λ u at. let got = c.in-ok-rest.ensures p is u at in (got.0 ∙ ap Ok (sym c.as-slice.ensures), got.1))
+    act_rows p c.args.place q node c.in-Doing.number c.in-Doing.action (c.in-Doing.ensures p is q node) c.as_slice.result.now c.in-ok-rest.rest.end _
+    (λ u at. let got = c.in-ok-rest.ensures p is u at in (got.0 ∙ ap Ok (sym c.as_slice.ensures), got.1))
     c.in-ok-listed.ensures
 
 pub overflow-add-place-in-Reading : goal.overflow-add-place-in-Reading
@@ -67,8 +67,8 @@ overflow-add-place-in-Reading t c =
     let long : c.args.place + 2 ≤ length l.file.now = omega (arith, inside.0, inside.1, first.1) in
     search rules
 
-pub rows-at-requires-in-Reading : goal.rows-at-requires-in-Reading
-rows-at-requires-in-Reading t c =
+pub rows_at-requires-in-Reading : goal.rows_at-requires-in-Reading
+rows_at-requires-in-Reading t c =
     let l = c.args.loaded.now in
     let w = c.requires in
     let inside = stands_within l c.args.place w in
@@ -77,11 +77,11 @@ rows-at-requires-in-Reading t c =
 
 pub returns-in-err-on : goal.returns-in-err-on
 returns-in-err-on t c = λ p is q node.
-    let e = err_from_is_err_and c.from-residual-in-err-on.result c.from-residual-in-err-on.ensures.1 in
+    let e = err_from_is_err_and c.from_residual-in-err-on.result c.from_residual-in-err-on.ensures.1 in
     rw (e.1, e.2) (true_err p c.args.place q node c.in-Reading.number c.in-Reading.action (c.in-Reading.ensures p is q node) _ (λ u at. c.in-err-on.ensures p is u at))
 
-pub rows-at-requires-in-Reading-2 : goal.rows-at-requires-in-Reading-2
-rows-at-requires-in-Reading-2 t c =
+pub rows_at-requires-in-Reading-2 : goal.rows_at-requires-in-Reading-2
+rows_at-requires-in-Reading-2 t c =
     let l = c.args.loaded.now in
     let w = c.requires in
     let inside = stands_within l c.args.place w in
@@ -92,27 +92,27 @@ rows-at-requires-in-Reading-2 t c =
 
 pub returns-in-err-off : goal.returns-in-err-off
 returns-in-err-off t c = λ p is q node.
-    let e = err_from_is_err_and c.from-residual-in-err-off.result c.from-residual-in-err-off.ensures.1 in
+    let e = err_from_is_err_and c.from_residual-in-err-off.result c.from_residual-in-err-off.ensures.1 in
     rw (e.1, e.2)
     (false_err p c.args.place q node c.in-Reading.number c.in-Reading.action (c.in-Reading.ensures p is q node) (list_of c.in-ok-on.on.listed) c.in-ok-on.on.end
     (λ u at. c.in-ok-on.ensures p is u at) _ (λ u at. c.in-err-off.ensures p is u at))
 
 pub returns-in-err-listed-2 : goal.returns-in-err-listed-2
 returns-in-err-listed-2 t c = λ p is q node.
-    let e = err_from_is_err_and c.from-residual-in-err-listed-2.result c.from-residual-in-err-listed-2.ensures.1 in
+    let e = err_from_is_err_and c.from_residual-in-err-listed-2.result c.from_residual-in-err-listed-2.ensures.1 in
     rw (e.1, e.2)
-    (ask_rows p c.args.place q node c.in-Reading.number c.in-Reading.action (c.in-Reading.ensures p is q node) c.as-slice-trues.result.now c.in-ok-on.on.end
-    (λ u at. let got = c.in-ok-on.ensures p is u at in (got.0 ∙ ap Ok (sym c.as-slice-trues.ensures), got.1))
-    c.as-slice-falses.result.now c.in-ok-off.off.end _
-    (λ u at. let got = c.in-ok-off.ensures p is u at in (got.0 ∙ ap Ok (sym c.as-slice-falses.ensures), got.1))
+    (ask_rows p c.args.place q node c.in-Reading.number c.in-Reading.action (c.in-Reading.ensures p is q node) c.as_slice-trues.result.now c.in-ok-on.on.end
+    (λ u at. let got = c.in-ok-on.ensures p is u at in (got.0 ∙ ap Ok (sym c.as_slice-trues.ensures), got.1))
+    c.as_slice-falses.result.now c.in-ok-off.off.end _
+    (λ u at. let got = c.in-ok-off.ensures p is u at in (got.0 ∙ ap Ok (sym c.as_slice-falses.ensures), got.1))
     c.in-err-listed-2.ensures).0
 
 pub returns-in-ok-listed-2 : goal.returns-in-ok-listed-2
 returns-in-ok-listed-2 t c = λ p is q node.
-    ask_rows p c.args.place q node c.in-Reading.number c.in-Reading.action (c.in-Reading.ensures p is q node) c.as-slice-trues.result.now c.in-ok-on.on.end
-    (λ u at. let got = c.in-ok-on.ensures p is u at in (got.0 ∙ ap Ok (sym c.as-slice-trues.ensures), got.1))
-    c.as-slice-falses.result.now c.in-ok-off.off.end _
-    (λ u at. let got = c.in-ok-off.ensures p is u at in (got.0 ∙ ap Ok (sym c.as-slice-falses.ensures), got.1))
+    ask_rows p c.args.place q node c.in-Reading.number c.in-Reading.action (c.in-Reading.ensures p is q node) c.as_slice-trues.result.now c.in-ok-on.on.end
+    (λ u at. let got = c.in-ok-on.ensures p is u at in (got.0 ∙ ap Ok (sym c.as_slice-trues.ensures), got.1))
+    c.as_slice-falses.result.now c.in-ok-off.off.end _
+    (λ u at. let got = c.in-ok-off.ensures p is u at in (got.0 ∙ ap Ok (sym c.as_slice-falses.ensures), got.1))
     c.in-ok-listed-2.ensures
 
 pub returns-in-End : goal.returns-in-End

@@ -13,8 +13,8 @@ use Rattle.meaning.proofs.Loading.{goal_state, tree_proper}
 use Rattle.regression.proofs.Roots.{rows_at, root_node, stands_root}
 use Rattle.regression.proofs.listing.rows.Goals as goal
 
-pub rows-at-requires : goal.rows-at-requires
-rows-at-requires c = stands_root c.args.loaded.now c.plan.result.place (λ p is. (c.plan.ensures.value p is).1)
+pub rows_at-requires : goal.rows_at-requires
+rows_at-requires c = stands_root c.args.loaded.now c.plan.result.place (λ p is. (c.plan.ensures.value p is).1)
 
 -- a refused call promises nothing of rows
 no_rows : {A : Type 0} (r : Result A Fault) (e : Fault) (P : A → Type 0) → r ≡ Err e → IfOk r P
@@ -22,7 +22,7 @@ no_rows r e P is = subst (λ x. IfOk x P) (sym is) tt
 
 pub returns-in-err-rooted : goal.returns-in-err-rooted
 returns-in-err-rooted c =
-    let e = err_from_is_err_and c.from-residual.result c.from-residual.ensures.1 in
+    let e = err_from_is_err_and c.from_residual.result c.from_residual.ensures.1 in
     record {
       value = λ p is.
           let place = (c.plan.ensures.value p is).1 in
@@ -38,20 +38,20 @@ returns-in-err-rooted c =
 
 pub returns : goal.returns
 returns c =
-    let rs = c.as-slice-rows.result.now in
+    let rs = c.as_slice-rows.result.now in
     let l = c.in-ok-rooted.rooted.listed in
-    let written = c.copy-from-slice.ensures.after in
+    let written = c.copy_from_slice.ensures.after in
     let file = c.args.loaded.now.file.now in
-    let listed : (p : Procedure) → procedure_of file ≡ Ok p → rows_of p.goal (tree_of p) ≡ Ok (take (length rs) (c.copy-from-slice.new.self ++ drop (length rs - 0) c.args.out.now)) = λ p is.
+    let listed : (p : Procedure) → procedure_of file ≡ Ok p → rows_of p.goal (tree_of p) ≡ Ok (take (length rs) (c.copy_from_slice.new.self ++ drop (length rs - 0) c.args.out.now)) = λ p is.
     let place = (c.plan.ensures.value p is).1 in
     let got = c.in-ok-rooted.ensures p is p.plan (root_node p c.plan.result.place place) in
     sym (ap (λ (i : ℕ). rows_at p i p.plan) place) ∙ got.0
-    ∙ ap Ok (sym c.as-slice-rows.ensures ∙ sym (take_at c.copy-from-slice.new.self _ (length rs) (ap length written) ∙ written)) in
+    ∙ ap Ok (sym c.as_slice-rows.ensures ∙ sym (take_at c.copy_from_slice.new.self _ (length rs) (ap length written) ∙ written)) in
     record {
       value = λ p is. (
         listed p is,
-        omega (arith, ap length c.as-slice-rows.ensures, length-take-le l.count l.rows (omega (arith, l.few, l.long)), l.few),
-        drop-append-drop (length rs - 0) c.args.out.now c.copy-from-slice.new.self (length rs) (omega arith) (omega (arith, ap length written)),
+        omega (arith, ap length c.as_slice-rows.ensures, length-take-le l.count l.rows (omega (arith, l.few, l.long)), l.few),
+        drop-append-drop (length rs - 0) c.args.out.now c.copy_from_slice.new.self (length rs) (omega arith) (omega (arith, ap length written)),
       );
       list = λ p is. rows_list p.goal (tree_of p) _ (goal_state file p is) (tree_proper file p is) (listed p is);
       safe = λ p is K. covered_safe p.goal (tree_of p) _ (listed p is) (λ w. K w ≡ true);

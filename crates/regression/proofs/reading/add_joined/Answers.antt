@@ -20,7 +20,7 @@ loop-other-preserved c =
     let d : Row = record { trues = 0; falses = 0 } in
     let xs : List Row = take l.other-index rs in
     let x = get_or rs l.other-index d in (
-      c.add.ensures.rows ∙ ap (λ r. gathered_in l.gathered ++ guarded conditions (j r ∷ [])) c.without-literal-other.ensures
+      c.add.ensures.rows ∙ ap (λ r. gathered_in l.gathered ++ guarded conditions (j r ∷ [])) c.without_literal-other.ensures
           ∙ gather_more conditions (gathered_in c.args.gathered.now) (λ ys. map j (map f ys)) (gathered_in l.gathered) rs l.other-index d (j (f x) ∷ []) c.loop-other-test.true
           (ap (map j) (map_push f xs x) ∙ map_push j (map f xs) (f x)) l.invariant.0,
       omega (arith, c.add.ensures.few, l.invariant.1),

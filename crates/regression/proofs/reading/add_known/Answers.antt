@@ -18,7 +18,7 @@ loop-row-preserved c =
     let rs = c.args.given.now in
     let d : Row = record { trues = 0; falses = 0 } in
     let x = get_or rs l.row-index d in (
-      c.add.ensures.rows ∙ ap (λ r. gathered_in l.gathered ++ guarded conditions (r ∷ [])) c.with-literal.ensures
+      c.add.ensures.rows ∙ ap (λ r. gathered_in l.gathered ++ guarded conditions (r ∷ [])) c.with_literal.ensures
           ∙ gather_more conditions (gathered_in c.args.gathered.now) (map f) (gathered_in l.gathered) rs l.row-index d (f x ∷ []) c.loop-row-test.true
           (map_push f (take l.row-index rs) x) l.invariant.0,
       omega (arith, c.add.ensures.few, l.invariant.1),

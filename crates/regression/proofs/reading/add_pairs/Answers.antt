@@ -20,10 +20,10 @@ loop-row-preserved c =
     let d : Row = record { trues = 0; falses = 0 } in
     let xs : List Row = take l.row-index rs in
     let x = get_or rs l.row-index d in (
-      c.add-joined.ensures.rows ∙ ap (λ r. gathered_in l.gathered ++ guarded conditions (map (joined r) es)) c.without-literal-row.ensures
+      c.add_joined.ensures.rows ∙ ap (λ r. gathered_in l.gathered ++ guarded conditions (map (joined r) es)) c.without_literal-row.ensures
           ∙ gather_more conditions (gathered_in c.args.gathered.now) (λ ys. pairs (map f ys) es) (gathered_in l.gathered) rs l.row-index d (map (joined (f x)) es) c.loop-row-test.true
           (ap (λ ys. pairs ys es) (map_push f xs x) ∙ pairs_more (map f xs) (f x) es) l.invariant.0,
-      omega (arith, c.add-joined.ensures.few, l.invariant.1, c.requires.few),
+      omega (arith, c.add_joined.ensures.few, l.invariant.1, c.requires.few),
     )
 
 pub returns : goal.returns

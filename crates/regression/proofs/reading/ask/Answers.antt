@@ -10,13 +10,13 @@ pub returns : goal.returns
 returns c =
     let conditions = row_of c.args.conditions in
     let f = c.args.fluent.index in
-    let ts = c.as-slice-trues.result.now in
-    let es = c.as-slice-falses.result.now in
+    let ts = c.as_slice-trues.result.now in
+    let es = c.as_slice-falses.result.now in
     let known : List Row = guarded conditions (map (plus f true) ts) in
     let both : List Row = guarded conditions (pairs (map (less f true) ts) (map (less f false) es)) in
-    let first : gathered_in c.add-known.new.gathered ≡ known =
-    c.add-known.ensures.rows ∙ ap (λ (n : ℕ). take n c.clear.new.self.rows ++ known) c.clear.ensures in
-    c.add-pairs.ensures ∙ ap (λ l. l ++ both) c.add-known-2.ensures.rows
+    let first : gathered_in c.add_known.new.gathered ≡ known =
+    c.add_known.ensures.rows ∙ ap (λ (n : ℕ). take n c.clear.new.self.rows ++ known) c.clear.ensures in
+    c.add_pairs.ensures ∙ ap (λ l. l ++ both) c.add_known-2.ensures.rows
     ∙ ap (λ l. (l ++ guarded conditions (map (plus f false) es)) ++ both) first
     ∙ gather_asked conditions f c.args.trues.now c.args.falses.now ts es
-    (c.as-slice-trues.ensures ∙ c.agreeing-ready-true.ensures) (c.as-slice-falses.ensures ∙ c.agreeing-ready-false.ensures)
+    (c.as_slice-trues.ensures ∙ c.agreeing-ready_true.ensures) (c.as_slice-falses.ensures ∙ c.agreeing-ready_false.ensures)

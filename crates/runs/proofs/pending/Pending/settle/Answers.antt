@@ -13,12 +13,12 @@ returns-after-value g c =
       learned = ((one.0, (c.in-Ok.ensures one.0).0 one.1), c.in-Ok.ensures);
       goes = λ p e a t f node.
           let within = room c.args.loaded.now.file.now p e c.args.self.place (ask a t f) node in
-          let first : c.saturating-add-first.result ≡ c.args.self.place + 2 = omega (arith, within) in
+          let first : c.saturating_add-first.result ≡ c.args.self.place + 2 = omega (arith, within) in
           elim c.if-value.branch [
             | then-value w ↦ w.place-is ∙ first ∙ ap (λ b. branch c.args.self.place b t) (sym w.if-value.true)
             | else-value w ↦
                 (let node-t = node_true p.plan p.place c.args.self.place a t f node in
-                let behind = w.place-past-place.ensures p e t (subst (λ (j : ℕ). Rattle.plans.specs.Trees.NodeAt p.place p.plan j t) (sym first) node-t) in
+                let behind = w.place_past-place.ensures p e t (subst (λ (j : ℕ). Rattle.plans.specs.Trees.NodeAt p.place p.plan j t) (sym first) node-t) in
                 w.place-is ∙ behind ∙ ap (λ (j : ℕ). past j t) first ∙ ap (λ b. branch c.args.self.place b t) (sym w.if-value.false))
           ];
     }

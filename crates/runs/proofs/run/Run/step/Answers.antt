@@ -13,23 +13,23 @@ use Rattle.runs.proofs.Nodes.{shown_end, shown_doing, shown_reading, shown_gap}
 use Rattle.runs.proofs.Room.{room}
 use Rattle.runs.proofs.run.Run.step.Goals as goal
 
-pub returns-else-knows-all : goal.returns-else-knows-all
-returns-else-knows-all g c = λ p e q node.
+pub returns-else-knows_all : goal.returns-else-knows_all
+returns-else-knows_all g c = λ p e q node.
     let worlds = g.K.Knowledge.worlds in
     let i = c.args.self.place in
     let k = c.args.self.knowledge in
     let goal : row_of c.goal.result ≡ p.goal = c.goal.ensures p e in
     shown_end p.actions (λ r. Stepped worlds p.goal p.actions i k r (Failed i GoalUnknown)) q (c.in-End.ensures p e q node)
-    (inr ((λ cov. both_ways _ c.if-knows-all.false (c.knows-all.ensures.1 (subst (λ (r : Row). Covers r (worlds k)) (sym goal) cov))), refl))
+    (inr ((λ cov. both_ways _ c.if-knows_all.false (c.knows_all.ensures.1 (subst (λ (r : Row). Covers r (worlds k)) (sym goal) cov))), refl))
 
-pub returns-then-knows-all-2 : goal.returns-then-knows-all-2
-returns-then-knows-all-2 g c = λ p e q node.
+pub returns-then-knows_all-2 : goal.returns-then-knows_all-2
+returns-then-knows_all-2 g c = λ p e q node.
     let worlds = g.K.Knowledge.worlds in
     let i = c.args.self.place in
     let k = c.args.self.knowledge in
     let x = c.in-Doing.action in
     let met : row_of c.conditions.result ≡ row_of x.conditions = ap row_of c.conditions.ensures in
-    let run : Run g.row.K.Denot = record { place = c.saturating-add.result; knowledge = c.apply.result } in
+    let run : Run g.row.K.Denot = record { place = c.saturating_add.result; knowledge = c.apply.result } in
     shown_doing p.actions (λ r. NodeAt p.place p.plan i r → Stepped worlds p.goal p.actions i k r (Did c.in-Doing.number run)) q c.in-Doing.number x (c.in-Doing.ensures p e q node)
     (λ rest found at. (
       row_of x.conditions,
@@ -37,13 +37,13 @@ returns-then-knows-all-2 g c = λ p e q node.
       x.del,
       found,
       inl (
-        subst (λ (r : Row). Covers r (worlds k)) met (c.knows-all-in-Doing.ensures.0 c.if-knows-all-2.true),
+        subst (λ (r : Row). Covers r (worlds k)) met (c.knows_all-in-Doing.ensures.0 c.if-knows_all-2.true),
         (run, refl, omega (arith, room c.args.loaded.now.file.now p e i (act c.in-Doing.number rest) at), c.apply.ensures),
       ),
     )) node
 
-pub returns-else-knows-all-2 : goal.returns-else-knows-all-2
-returns-else-knows-all-2 g c = λ p e q node.
+pub returns-else-knows_all-2 : goal.returns-else-knows_all-2
+returns-else-knows_all-2 g c = λ p e q node.
     let worlds = g.K.Knowledge.worlds in
     let i = c.args.self.place in
     let k = c.args.self.knowledge in
@@ -55,11 +55,11 @@ returns-else-knows-all-2 g c = λ p e q node.
       x.add,
       x.del,
       found,
-      inr ((λ cov. both_ways _ c.if-knows-all-2.false (c.knows-all-in-Doing.ensures.1 (subst (λ (r : Row). Covers r (worlds k)) (sym met) cov))), refl),
+      inr ((λ cov. both_ways _ c.if-knows_all-2.false (c.knows_all-in-Doing.ensures.1 (subst (λ (r : Row). Covers r (worlds k)) (sym met) cov))), refl),
     ))
 
-pub returns-then-knows-all-3 : goal.returns-then-knows-all-3
-returns-then-knows-all-3 g c = λ p e q node.
+pub returns-then-knows_all-3 : goal.returns-then-knows_all-3
+returns-then-knows_all-3 g c = λ p e q node.
     let worlds = g.K.Knowledge.worlds in
     let i = c.args.self.place in
     let k = c.args.self.knowledge in
@@ -70,11 +70,11 @@ returns-then-knows-all-3 g c = λ p e q node.
       row_of x.conditions,
       x.fluent.index,
       found,
-      inl (c.knows-all-in-Reading.ensures.0 c.if-knows-all-3.true, (pending, refl, refl, refl, refl, refl)),
+      inl (c.knows_all-in-Reading.ensures.0 c.if-knows_all-3.true, (pending, refl, refl, refl, refl, refl)),
     ))
 
-pub returns-else-knows-all-3 : goal.returns-else-knows-all-3
-returns-else-knows-all-3 g c = λ p e q node.
+pub returns-else-knows_all-3 : goal.returns-else-knows_all-3
+returns-else-knows_all-3 g c = λ p e q node.
     let worlds = g.K.Knowledge.worlds in
     let i = c.args.self.place in
     let k = c.args.self.knowledge in
@@ -84,5 +84,5 @@ returns-else-knows-all-3 g c = λ p e q node.
       row_of x.conditions,
       x.fluent.index,
       found,
-      inr ((λ cov. both_ways _ c.if-knows-all-3.false (c.knows-all-in-Reading.ensures.1 cov)), refl),
+      inr ((λ cov. both_ways _ c.if-knows_all-3.false (c.knows_all-in-Reading.ensures.1 cov)), refl),
     ))
