@@ -1,5 +1,5 @@
 -- The coverage law of partial states: the rows of a plan are exact, and no other list of rows is. Assumes nothing.
-use Rattle.std.proofs.Common.{◌≡◌, true, ◌⊎◌, List, ◌++◌, length, Ok, subst, inl, inr}
+use Rattle.std.proofs.Common.{◌≡◌, true, ◌⊎◌, List, ◌++◌, Ok, inl, inr}
 use Rattle.std.specs.List.{ContainsAt as Has}
 use Rattle.std.proofs.ByRecursion.{has_append_left, has_append_right}
 use Rattle.knowledge.specs.Extends.{Extends}
@@ -11,7 +11,6 @@ use Rattle.least.proofs.Only.{least_only}
 use Rattle.meaning.specs.Laws.{IsState, RowList, Exact, Only}
 use Rattle.meaning.specs.Rows.{rows_of}
 use Rattle.meaning.specs.Steps.{Steps}
-use Rattle.meaning.specs.Walks.{Walks}
 use Rattle.meaning.proofs.Covering.{covered_well}
 use Rattle.meaning.proofs.Exactness.{well_covered}
 use Rattle.meaning.proofs.Extended.{below_covers, covers_below}

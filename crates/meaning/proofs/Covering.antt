@@ -1,5 +1,5 @@
 -- What the rows promise to every set of worlds: no walk from worlds that a row covers fails. Assumes nothing.
-use Rattle.std.proofs.Common.{◌≡◌, ℕ, Bool, true, false, ◌⊎◌, List, [], ◌∷◌, length, Ok, sym, refl, subst, inl, inr}
+use Rattle.std.proofs.Common.{◌≡◌, ℕ, Bool, true, false, ◌⊎◌, List, [], ◌∷◌, length, Ok, sym, subst, inl, inr}
 use Rattle.std.specs.List.{ContainsAt as Has}
 use Rattle.std.proofs.lemmas.Bool.{both_ways}
 use Rattle.fluents.specs.Refusals.{fault_at}
@@ -8,7 +8,7 @@ use Rattle.fluents.specs.declared.faults.Fault.{Fault}
 use Rattle.fluents.specs.declared.faults.Refusal.TheVariants.{Contradiction}
 use Rattle.knowledge.specs.declared.states.Row.{Row}
 use Rattle.meaning.specs.declared.answers.Stop.{Stop}
-use Rattle.meaning.specs.declared.answers.Stop.TheVariants.{EndedWell, Failed, Refused, UsedUp}
+use Rattle.meaning.specs.declared.answers.Stop.TheVariants.{Refused}
 use Rattle.meaning.specs.Laws.{CoveredBy, NoFailure, Safe}
 use Rattle.meaning.specs.Rows.{joined, guarded, regressed, plus, less, asked, least_rows, rows_of}
 use Rattle.meaning.specs.Sets.{Meets, Covers, Moved, Told, Possible, Either}

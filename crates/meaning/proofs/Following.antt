@@ -4,12 +4,12 @@ use Rattle.knowledge.specs.Meaning.{Same}
 use Rattle.knowledge.specs.declared.states.Row.{Row}
 use Rattle.meaning.specs.declared.answers.Cause.{Cause}
 use Rattle.meaning.specs.declared.answers.Stop.{Stop}
-use Rattle.meaning.specs.declared.answers.Stop.TheVariants.{EndedWell, Failed, Refused, UsedUp}
+use Rattle.meaning.specs.declared.answers.Stop.TheVariants.{EndedWell, Failed}
 use Rattle.meaning.specs.declared.answers.Verdict.{Verdict}
 use Rattle.meaning.specs.declared.answers.Verdict.TheVariants.{Holds, Fails}
 use Rattle.meaning.specs.Sets.{Moved, Told, Possible, Either}
 use Rattle.meaning.specs.Steps.{Steps, ends, does, reads, gaps}
-use Rattle.meaning.specs.Walks.{Walks, AtNode, AllEndWell}
+use Rattle.meaning.specs.Walks.{Walks, AllEndWell}
 use Rattle.meaning.specs.Follows.{Then, Follows, Judges}
 use Rattle.meaning.specs.Laws.{NoFailure}
 use Rattle.meaning.proofs.Walking.{ended_well, either_then, either_both, moved_same, told_same, cover_map, possible_map, walks_only}

@@ -1,5 +1,5 @@
 -- The worlds that have the literals of a row: of a joined one, of one before an action, of one with a literal more or less. Assumes nothing.
-use Rattle.std.proofs.Common.{◌≡◌, ℕ, Bool, true, false, not, ◌&&◌, ◌||◌, ◌⊎◌, sym, refl, ap, ◌∙◌, inl, inr, ⊎_elim, arith}
+use Rattle.std.proofs.Common.{◌≡◌, ℕ, Bool, true, false, not, ◌&&◌, ◌⊎◌, sym, refl, ap, ◌∙◌, inl, inr, ⊎_elim, arith}
 use Rattle.std.proofs.lemmas.Bool.{eqb-true, eq-eqb, and_from, and_parts, or_cases, or_left, or_right, not-true, not_from_false, both_ways}
 use Rattle.fluents.specs.Sets.{bit, only, union, minus, Apart}
 use Rattle.fluents.proofs.Bits.{bit-or, bit-minus, bit-only, within_members, apart_members, members_apart}

@@ -1,10 +1,10 @@
 -- Where the nodes of a plan stand among its bytes, and the bytes that a node begins with. Assumes nothing.
-use Rattle.std.proofs.Common.{◌≡◌, ℕ, ◌+◌, ◌-◌, ◌<◌, ◌≤◌, Bool, true, false, List, [], ◌∷◌, ◌++◌, length, get_or, drop, replicate, Ok, sym, refl, ap, ◌∙◌, subst, append-nil, arith}
+use Rattle.std.proofs.Common.{◌≡◌, ℕ, ◌+◌, ◌-◌, ◌<◌, ◌≤◌, List, [], ◌∷◌, ◌++◌, length, get_or, drop, replicate, sym, ap, ◌∙◌, append-nil, arith}
 use lib.ListN.{length-replicate}
 use Rattle.std.proofs.lemmas.List.{drop-drop, drop_at}
-use Rattle.plans.specs.Trees.{Plan, finish, act, ask, gap, encode, past, NodeAt}
+use Rattle.plans.specs.Trees.{Plan, finish, act, ask, gap, encode, NodeAt}
 use Rattle.plans.proofs.Places.{node_stands, node_within, rest_one, long_one, long_two}
-use Rattle.procedure.specs.Procedures.{Procedure, procedure_of}
+use Rattle.procedure.specs.Procedures.{Procedure}
 use Rattle.meaning.proofs.Passing.{first_is}
 
 -- a node at the place j of a plan whose first node stands at i has its bytes at offset j - i of the plan's

@@ -1,5 +1,5 @@
 -- The trees of loaded procedures: every condition is a partial state, and effects and fluents are in range. Assumes nothing.
-use Rattle.std.proofs.Common.{ℕ, ◌^◌, ◌<◌}
+use Rattle.std.proofs.Common.{◌^◌, ◌<◌}
 use Rattle.fluents.specs.Sets.{Apart}
 use Rattle.meaning.specs.Laws.{IsState}
 use Rattle.meaning.specs.Steps.{Steps, ends, does, reads, gaps}

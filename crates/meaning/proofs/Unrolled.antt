@@ -1,8 +1,7 @@
 -- How the rows of a node come from those of the nodes below it. Assumes nothing.
-use Rattle.std.proofs.Common.{◌≡◌, ℕ, ◌≤◌, Bool, true, false, cond, leb, List, [], ◌∷◌, length, Ok, Err, Result, sym, refl, subst, arith}
+use Rattle.std.proofs.Common.{◌≡◌, ℕ, ◌≤◌, Bool, true, false, cond, leb, List, [], ◌∷◌, length, Ok, Err, sym, refl, subst, arith}
 use Rattle.std.proofs.lemmas.Bool.{leb-true}
 use Rattle.fluents.specs.Refusals.{fault_at}
-use Rattle.fluents.specs.declared.faults.Fault.{Fault}
 use Rattle.fluents.specs.declared.faults.Refusal.TheVariants.{TooManyRows}
 use Rattle.knowledge.specs.declared.states.Row.{Row}
 use Rattle.procedure.specs.Procedures.{then}

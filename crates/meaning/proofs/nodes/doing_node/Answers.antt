@@ -1,4 +1,4 @@
-use Rattle.std.proofs.Common.{◌≡◌, ℕ, sym, refl, ap, ◌∙◌, arith}
+use Rattle.std.proofs.Common.{◌≡◌, ℕ, refl, ap, ◌∙◌, arith}
 use Rattle.procedure.specs.Acts.{act_seen}
 use Rattle.meaning.proofs.Loading.{doing_there, act_at_none, act_at_get_d}
 use Rattle.meaning.proofs.nodes.doing_node.Goals as goal
@@ -6,7 +6,7 @@ use Rattle.meaning.proofs.nodes.doing_node.Goals as goal
 pub returns-in_default : goal.returns-in_default
 returns-in_default c = λ p e does.
     let there = doing_there p.actions c.args.number does in
-    let none = act_at_none p.actions c.args.number (c.in-default.ensures p e) in
+    let none = act_at_none p.actions c.args.number (c.in_default.ensures p e) in
     let found = there.3 in
     let z : ◌≡◌ {A = ℕ} 0 1 = cc in absurd (omega arith)
 

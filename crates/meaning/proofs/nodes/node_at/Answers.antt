@@ -1,4 +1,4 @@
-use Rattle.std.proofs.Common.{◌≡◌, ℕ, ◌+◌, ◌<◌, ◌≤◌, Bool, true, ◌⊎◌, List, length, get_or, sym, refl, ap, ◌∙◌, subst, inl, inr, arith}
+use Rattle.std.proofs.Common.{◌≡◌, ℕ, ◌+◌, ◌≤◌, true, ◌⊎◌, List, length, get_or, refl, ap, ◌∙◌, subst, inl, inr, arith}
 use Rattle.plans.specs.Trees.{Plan, finish, act, ask, gap, Named}
 use Rattle.procedure.specs.Procedures.{Act, does_at, reads_at}
 use Rattle.meaning.specs.Nodes.{Shown, ShownDoing, ShownReading}

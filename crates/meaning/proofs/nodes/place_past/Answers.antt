@@ -1,5 +1,5 @@
-use Rattle.std.proofs.Common.{◌≡◌, ℕ, ◌+◌, ◌-◌, ◌<◌, ◌≤◌, length, sym, refl, ap, ◌∙◌, subst, arith}
-use Rattle.plans.specs.Trees.{Plan, encode, past}
+use Rattle.std.proofs.Common.{◌≡◌, ◌+◌, length, arith}
+use Rattle.plans.specs.Trees.{encode}
 use Rattle.plans.proofs.Places.{node_within}
 use Rattle.procedure.proofs.Holding.{plan_lies}
 use Rattle.meaning.proofs.Offsets.{node_leads}

@@ -1,4 +1,4 @@
-use Rattle.std.proofs.Common.{◌≡◌, ℕ, ◌+◌, ◌<◌, ◌≤◌, length, get_or, sym, subst, arith}
+use Rattle.std.proofs.Common.{◌≡◌, ℕ, ◌+◌, sym, subst, arith}
 use Rattle.meaning.proofs.Passing.{Ahead, ahead_first, ahead_room, ahead_none, ahead_over, leaf_passed, doing_passed, reading_passed}
 use Rattle.meaning.proofs.nodes.skip.Goals as goal
 

@@ -31,8 +31,8 @@ other_slot w run (suc (suc (suc (suc (suc (suc (suc n))))))) h = absurd (omega a
 seven_left : (i j : ℕ) → i < 8 → 7 ≤ i → j < 8 → (j ≡ i → ⊥) → j < 7
 seven_left i j a b c n = omega arith
 
-pub returns-in-default : goal.returns-in-default
-returns-in-default g c = λ h. (
+pub returns-in_default : goal.returns-in_default
+returns-in_default g c = λ h. (
   last_slot c.args.self c.args.run c.args.i (omega arith),
   (λ j low n. other_slot c.args.self c.args.run j (omega (arith, seven_left c.args.i j h (omega arith) low n))),
 )
