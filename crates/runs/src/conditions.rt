@@ -11,7 +11,7 @@ use knowledge::states::PartialState;
 
 // Whether the literal that the state has of this fluent, if any, is known.
 fn knows_fluent<K: Knowledge>(known: &K, state: PartialState, fluent: Fluent) -> bool
-    ensures { (result ≡ true → CoversAt (row_of state) fluent.index (worlds known.now)) × (CoversAt (row_of state) fluent.index (worlds known.now) → result ≡ true) }
+    ensures { (result ≡ true → CoversAt (row_of state) fluent.index (K.worlds known.now)) × (CoversAt (row_of state) fluent.index (K.worlds known.now) → result ≡ true) }
 {
     if has(state.trues(), fluent.index()) {
         known.knows(Literal {
@@ -30,7 +30,7 @@ fn knows_fluent<K: Knowledge>(known: &K, state: PartialState, fluent: Fluent) ->
 
 // Whether all literals of the state are known.
 pub fn knows_all<K: Knowledge>(known: &K, state: PartialState) -> bool
-    ensures { (result ≡ true → Covers (row_of state) (worlds known.now)) × (Covers (row_of state) (worlds known.now) → result ≡ true) }
+    ensures { (result ≡ true → Covers (row_of state) (K.worlds known.now)) × (Covers (row_of state) (K.worlds known.now) → result ≡ true) }
 {
     for i in 0..64 {
         if let Ok(fluent) = Fluent::new(i) {

@@ -19,9 +19,9 @@ use procedure::loaded::Loaded;
 // agreeing list of readings ends well, and where it fails some agreeing list leads to that node with that cause (`judges`).
 // From a start that a listed row covers it holds (`covered`).
 pub fn follow<K: Knowledge>(loaded: &Loaded, start: K) -> Verdict
-    ensures value { (p : Procedure) → procedure_of loaded.now.file.now ≡ Ok p → Follows p.goal (tree_of p) (worlds start) result }
-    ensures covered { (p : Procedure) → procedure_of loaded.now.file.now ≡ Ok p → (rs : List Row) → rows_of p.goal (tree_of p) ≡ Ok rs → CoveredBy rs (worlds start) → result ≡ Holds }
-    ensures judges { (p : Procedure) → procedure_of loaded.now.file.now ≡ Ok p → Judges p.goal (tree_of p) (worlds start) result }
+    ensures value { (p : Procedure) → procedure_of loaded.now.file.now ≡ Ok p → Follows p.goal (tree_of p) (K.worlds start) result }
+    ensures covered { (p : Procedure) → procedure_of loaded.now.file.now ≡ Ok p → (rs : List Row) → rows_of p.goal (tree_of p) ≡ Ok rs → CoveredBy rs (K.worlds start) → result ≡ Holds }
+    ensures judges { (p : Procedure) → procedure_of loaded.now.file.now ≡ Ok p → Judges p.goal (tree_of p) (K.worlds start) result }
 {
     let mut run = Run::begin(loaded, start);
     let mut waiting = Waiting::filled(run);

@@ -52,7 +52,7 @@ impl<K: Knowledge> Pending<K> {
     // The value of the reading is learned, and the run goes on in its branch; a value that no world has is refused at the
     // reading node.
     pub fn settle(self, loaded: &Loaded, value: bool) -> Result<Run<K>, Fault>
-        ensures learned { Settled worlds self value result }
+        ensures learned { Settled K.worlds self value result }
         ensures goes { (p : Procedure) → procedure_of loaded.now.file.now ≡ Ok p → (a : ℕ) (t e : Plan) → NodeAt p.place p.plan self.place (ask a t e) → IfOk result (λ run. run.place ≡ branch self.place value t) }
     {
         let Pending {
@@ -80,7 +80,7 @@ impl<K: Knowledge> Pending<K> {
 
     // The branches that what is known leaves open.
     pub fn branches(self, loaded: &Loaded) -> Branches<K>
-        ensures { (p : Procedure) → procedure_of loaded.now.file.now ≡ Ok p → (a : ℕ) (t e : Plan) → NodeAt p.place p.plan self.place (ask a t e) → Branched worlds self t result }
+        ensures { (p : Procedure) → procedure_of loaded.now.file.now ≡ Ok p → (a : ℕ) (t e : Plan) → NodeAt p.place p.plan self.place (ask a t e) → Branched K.worlds self t result }
     {
         let Pending {
             place,

@@ -48,7 +48,7 @@ impl<K: Knowledge> Run<K> {
 
     // One step from the node at which the run stands.
     pub fn step(self, loaded: &Loaded) -> Step<K>
-        ensures { (p : Procedure) → procedure_of loaded.now.file.now ≡ Ok p → (q : Plan) → NodeAt p.place p.plan self.place q → Stepped worlds p.goal p.actions self.place self.knowledge q result }
+        ensures { (p : Procedure) → procedure_of loaded.now.file.now ≡ Ok p → (q : Plan) → NodeAt p.place p.plan self.place q → Stepped K.worlds p.goal p.actions self.place self.knowledge q result }
     {
         let Run { place, knowledge } = self;
         match node_at(loaded, place) {

@@ -24,9 +24,9 @@ pub struct Walked {
 // it comes to no failing node, and where the readings agree with the start it ends well; `safe` says the same of every list
 // of readings.
 pub fn walk<K: Knowledge>(loaded: &Loaded, start: K, readings: &[bool]) -> Walked
-    ensures value { (p : Procedure) → procedure_of loaded.now.file.now ≡ Ok p → Walks p.goal (tree_of p) (worlds start) readings.now result.used result.stop }
-    ensures covered { (p : Procedure) → procedure_of loaded.now.file.now ≡ Ok p → (rs : List Row) → rows_of p.goal (tree_of p) ≡ Ok rs → CoveredBy rs (worlds start) → NoFailure result.stop × (Agrees p.goal (tree_of p) (worlds start) readings.now → result.stop ≡ EndedWell) }
-    ensures safe { (p : Procedure) → procedure_of loaded.now.file.now ≡ Ok p → (rs : List Row) → rows_of p.goal (tree_of p) ≡ Ok rs → Safe p.goal (tree_of p) rs (worlds start) }
+    ensures value { (p : Procedure) → procedure_of loaded.now.file.now ≡ Ok p → Walks p.goal (tree_of p) (K.worlds start) readings.now result.used result.stop }
+    ensures covered { (p : Procedure) → procedure_of loaded.now.file.now ≡ Ok p → (rs : List Row) → rows_of p.goal (tree_of p) ≡ Ok rs → CoveredBy rs (K.worlds start) → NoFailure result.stop × (Agrees p.goal (tree_of p) (K.worlds start) readings.now → result.stop ≡ EndedWell) }
+    ensures safe { (p : Procedure) → procedure_of loaded.now.file.now ≡ Ok p → (rs : List Row) → rows_of p.goal (tree_of p) ≡ Ok rs → Safe p.goal (tree_of p) rs (K.worlds start) }
 {
     let mut run = Run::begin(loaded, start);
     let mut used = 0;
