@@ -1,19 +1,18 @@
 -- What lasts from step to step of following: the branches that are still ahead. Assumes nothing.
-use Rattle.std.proofs.Common.{◌≡◌, ℕ, suc, ◌+◌, ◌<◌, ◌≤◌, Bool, true, false, ◌⊎◌, List, [], ◌∷◌, length, Some, Ok, sym, refl, ap, ◌∙◌, subst, inl, inr, arith, length-append}
-use Rattle.knowledge.specs.Meaning.{Same}
+use Rattle.std.proofs.Common.{◌≡◌, ℕ, suc, ◌+◌, ◌<◌, ◌≤◌, Bool, true, false, List, [], ◌∷◌, length, Ok, sym, refl, ap, ◌∙◌, subst, inl, inr, arith, length-append}
 use Rattle.knowledge.specs.declared.states.Row.{Row}
 use Rattle.plans.specs.Trees.{Plan, finish, act, ask, gap, encode, past, readings, NodeAt}
 use Rattle.plans.proofs.Codes.{some_bytes}
 use Rattle.plans.proofs.Places.{node_root, node_rest, node_within}
-use Rattle.procedure.specs.Procedures.{Act, doing, reading, Procedure, procedure_of}
+use Rattle.procedure.specs.Procedures.{Act, Procedure, procedure_of}
 use Rattle.meaning.specs.Follows.{Follows, Then}
-use Rattle.meaning.specs.Sets.{Covers, Moved, Told, Possible, Either}
-use Rattle.meaning.specs.Steps.{Steps, ends, does, reads, gaps, act_at, steps_of, tree_of}
+use Rattle.meaning.specs.Sets.{Covers, Moved, Told, Possible}
+use Rattle.meaning.specs.Steps.{Steps, does, reads, steps_of, tree_of}
 use Rattle.meaning.specs.declared.answers.Cause.{Cause}
 use Rattle.meaning.specs.declared.answers.Verdict.{Verdict}
 use Rattle.meaning.specs.declared.answers.Verdict.TheVariants.{Holds, Fails}
 use Rattle.meaning.proofs.Following.{follows_same}
-use Rattle.runs.specs.Stepping.{Stepped, InBranch, Closed, Branched, branch}
+use Rattle.runs.specs.Stepping.{Stepped, InBranch, Branched, branch}
 use Rattle.runs.specs.declared.pending.Branches.TheVariants.{One, Both}
 use Rattle.runs.specs.declared.pending.Pending.{Pending}
 use Rattle.runs.specs.declared.run.Run.{Run}

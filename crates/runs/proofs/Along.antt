@@ -1,23 +1,23 @@
 -- What lasts from step to step of a walk, and what each step makes of it. Assumes nothing.
-use Rattle.std.proofs.Common.{◌≡◌, ℕ, suc, ◌+◌, ◌<◌, ◌≤◌, Bool, true, false, List, [], ◌∷◌, length, drop, Some, Ok, Err, Result, sym, refl, ap, ◌∙◌, subst, inl, inr, arith, length-drop}
+use Rattle.std.proofs.Common.{◌≡◌, ℕ, suc, ◌+◌, ◌<◌, ◌≤◌, Bool, true, false, List, [], ◌∷◌, length, drop, Some, Ok, Err, sym, refl, ap, ◌∙◌, subst, inl, inr, arith, length-drop}
 use Rattle.std.proofs.lemmas.List.{drop_all}
 use Rattle.fluents.specs.Refusals.{fault_at}
 use Rattle.fluents.specs.declared.faults.Fault.{Fault}
 use Rattle.fluents.specs.declared.faults.Refusal.TheVariants.{Contradiction}
 use Rattle.knowledge.specs.Meaning.{Same}
 use Rattle.knowledge.specs.declared.states.Row.{Row}
-use Rattle.plans.specs.Trees.{Plan, finish, act, ask, gap, encode, past, NodeAt}
+use Rattle.plans.specs.Trees.{Plan, finish, act, ask, gap, past, NodeAt}
 use Rattle.plans.proofs.Codes.{some_bytes}
 use Rattle.plans.proofs.Places.{node_root, node_rest, node_true, node_false, node_within}
 use Rattle.procedure.specs.Procedures.{Act, doing, reading, Procedure, procedure_of}
-use Rattle.meaning.specs.Sets.{Covers, Moved, Told, Possible, Either}
-use Rattle.meaning.specs.Steps.{Steps, ends, does, reads, gaps, act_at, doing_step, reading_step, steps_of, tree_of}
+use Rattle.meaning.specs.Sets.{Covers, Moved, Told, Possible}
+use Rattle.meaning.specs.Steps.{Steps, does, reads, act_at, doing_step, reading_step, steps_of, tree_of}
 use Rattle.meaning.specs.Walks.{Walks}
 use Rattle.meaning.specs.declared.answers.Cause.{Cause}
 use Rattle.meaning.specs.declared.answers.Stop.{Stop}
 use Rattle.meaning.specs.declared.answers.Stop.TheVariants.{EndedWell, Failed as FailedStop, Refused, UsedUp}
-use Rattle.meaning.proofs.Walking.{walks_same, same_sym}
-use Rattle.runs.specs.Stepping.{Stepped, Settled, Done, Waits, branch}
+use Rattle.meaning.proofs.Walking.{walks_same}
+use Rattle.runs.specs.Stepping.{Stepped, Settled, branch}
 use Rattle.runs.specs.declared.pending.Pending.{Pending}
 use Rattle.runs.specs.declared.run.Run.{Run}
 use Rattle.runs.specs.declared.run.Step.{Step}

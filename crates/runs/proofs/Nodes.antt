@@ -1,5 +1,5 @@
 -- By the node that was read, which plan begins there. Assumes nothing.
-use Rattle.std.proofs.Common.{◌≡◌, ℕ, List, Some, sym, refl, ap, ◌∙◌, subst, arith}
+use Rattle.std.proofs.Common.{◌≡◌, ℕ, List, Some, sym, ap, ◌∙◌, subst, arith}
 use Rattle.knowledge.specs.declared.actions.Action.TheVariants.{Doing as DoingAct, Reading as ReadingAct}
 use Rattle.knowledge.specs.declared.actions.DoingAction.{DoingAction}
 use Rattle.knowledge.specs.declared.actions.ReadingAction.{ReadingAction}
@@ -8,7 +8,6 @@ use Rattle.procedure.specs.Acts.{act_seen}
 use Rattle.procedure.specs.Procedures.{Act}
 use Rattle.meaning.specs.Nodes.{Shown}
 use Rattle.meaning.specs.Steps.{act_at}
-use Rattle.meaning.specs.declared.nodes.Node.{Node}
 use Rattle.meaning.specs.declared.nodes.Node.TheVariants.{End, Doing, Reading, Gap}
 
 module _ (acts : List Act) (P : Plan → Type 0) where

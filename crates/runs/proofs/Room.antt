@@ -1,6 +1,6 @@
 -- The nodes of a loaded plan lie within the file. Assumes nothing.
-use Rattle.std.proofs.Common.{◌≡◌, ℕ, ◌+◌, ◌≤◌, List, length, Ok, arith}
-use Rattle.plans.specs.Trees.{Plan, encode, past, NodeAt}
+use Rattle.std.proofs.Common.{◌≡◌, ℕ, ◌≤◌, List, length, Ok, arith}
+use Rattle.plans.specs.Trees.{Plan, past, NodeAt}
 use Rattle.plans.proofs.Places.{node_within}
 use Rattle.procedure.specs.Procedures.{Procedure, procedure_of}
 use Rattle.procedure.proofs.Holding.{plan_lies}

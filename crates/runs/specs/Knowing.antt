@@ -1,5 +1,5 @@
 -- What is known of one fluent. Assumes nothing.
-use Rattle.std.specs.Prelude.{◌≡◌, ℕ, Bool, true, false}
+use Rattle.std.specs.Prelude.{◌≡◌, ℕ, true, false}
 use Rattle.fluents.specs.Sets.{bit}
 use Rattle.knowledge.specs.declared.states.Row.{Row}
 

@@ -1,4 +1,4 @@
-use Rattle.std.proofs.Common.{◌<◌, refl, arith}
+use Rattle.std.proofs.Common.{refl, arith}
 use Rattle.procedure.specs.Acts.{row_of}
 use Rattle.runs.proofs.Knowing.{covers_all}
 use Rattle.runs.proofs.conditions.knows_all.Goals as goal

@@ -1,4 +1,4 @@
-use Rattle.std.proofs.Common.{◌≡◌, ℕ, true, sym, ◌∙◌}
+use Rattle.std.proofs.Common.{◌≡◌, true}
 use Rattle.fluents.specs.Sets.{bit}
 use Rattle.procedure.specs.Acts.{row_of}
 use Rattle.runs.proofs.Knowing.{true_covers}

@@ -1,4 +1,4 @@
-use Rattle.std.proofs.Common.{◌≡◌, ℕ, suc, ◌+◌, ◌-◌, ◌<◌, Ok, sym, refl, ap, ◌∙◌, subst, arith, rules}
+use Rattle.std.proofs.Common.{◌≡◌, ℕ, ◌+◌, ◌-◌, ◌<◌, Ok, sym, refl, ap, ◌∙◌, subst, arith, rules}
 use Rattle.plans.specs.Trees.{past}
 use Rattle.procedure.specs.Procedures.{Procedure, procedure_of}
 use Rattle.procedure.proofs.Holding.{Kept, kept}
@@ -11,7 +11,6 @@ use Rattle.meaning.proofs.Covering.{covered_well}
 use Rattle.meaning.proofs.Following.{follows_judges}
 use Rattle.meaning.proofs.Loading.{few_readings}
 use Rattle.runs.specs.Waiting.{slot}
-use Rattle.runs.specs.declared.run.Run.{Run}
 use Rattle.runs.proofs.Ahead.{Ahead, ahead_begun, ahead_within, ahead_did, further_did, ahead_over, ahead_next, ahead_failed, asking, node, ahead_one, room_both, further_both, ahead_both}
 use Rattle.runs.proofs.follow.follow.Given as given
 use Rattle.runs.proofs.follow.follow.Goals as goal
@@ -105,8 +104,8 @@ both g c =
       ahead_both worlds g.met.K.Knowledge.some file start run slots count w x step c.in-Both.next c.in-Both.later open-both (slot c.with-waiting.result) put.0 put.1,
     )
 
-pub overflow-add-count : goal.overflow-add-count
-overflow-add-count g c = let room = (both g c).0 in search rules
+pub overflow_add-count : goal.overflow_add-count
+overflow_add-count g c = let room = (both g c).0 in search rules
 
 pub loop-next-smaller-in-Both : goal.loop-next-smaller-in-Both
 loop-next-smaller-in-Both g c =

@@ -1,15 +1,15 @@
-use Rattle.std.proofs.Common.{◌≡◌, ℕ, ◌+◌, ◌<◌, ◌≤◌, Bool, false, List, ◌∷◌, length, get_or, drop, Ok, sym, ap, ◌∙◌, subst, arith}
+use Rattle.std.proofs.Common.{◌≡◌, ℕ, ◌+◌, Bool, false, List, Ok, sym, ap, ◌∙◌, subst, arith}
 use Rattle.std.proofs.lemmas.List.{drop_more}
-use Rattle.plans.specs.Trees.{encode, past}
+use Rattle.plans.specs.Trees.{past}
 use Rattle.procedure.specs.Procedures.{Procedure, procedure_of}
-use Rattle.procedure.proofs.Holding.{Kept, kept}
+use Rattle.procedure.proofs.Holding.{kept}
 use Rattle.procedure.proofs.Walking.{ok_same}
 use Rattle.meaning.specs.Steps.{tree_of}
 use Rattle.meaning.specs.Walks.{Walks}
 use Rattle.meaning.specs.declared.answers.Stop.{Stop}
 use Rattle.meaning.specs.declared.answers.Stop.TheVariants.{EndedWell, Failed, Refused, UsedUp}
 use Rattle.meaning.proofs.Covering.{covered_safe}
-use Rattle.runs.proofs.Along.{Along, along_begun, along_within, along_did, further_did, along_ended, along_failed, waiting, waiting_node, along_used_up, along_refused, along_settled, further_settled}
+use Rattle.runs.proofs.Along.{along_begun, along_within, along_did, further_did, along_ended, along_failed, waiting, waiting_node, along_used_up, along_refused, along_settled, further_settled}
 use Rattle.runs.proofs.walk.walk.Goals as goal
 
 -- the walk in the words of the caller's procedure and start

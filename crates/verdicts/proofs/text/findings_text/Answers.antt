@@ -17,8 +17,8 @@ unfolding parts
 returns c =
     let rs = c.rows-rows.result.now in
     let v = c.verdict-verdict.result in
-    c.in-ok-push_str.ensures.bytes
-    ∙ ap (λ (x : List ℕ). x ++ c.as_str.result.now) c.in-ok-text.ensures.ok
-    ∙ ap (λ (x : List ℕ). (verdict_text v ++ (codes "\nrows " ++ (decimal (length rs) ++ codes "\n"))) ++ x) (c.as_str.ensures.value ∙ c.in-ok-lines.ensures)
+    c.in_ok-push_str.ensures.bytes
+    ∙ ap (λ (x : List ℕ). x ++ c.as_str.result.now) c.in_ok-text.ensures.ok
+    ∙ ap (λ (x : List ℕ). (verdict_text v ++ (codes "\nrows " ++ (decimal (length rs) ++ codes "\n"))) ++ x) (c.as_str.ensures.value ∙ c.in_ok-lines.ensures)
     ∙ regrouped (verdict_text v) (codes "\nrows ") (decimal (length rs)) (codes "\n") (row_lines rs)
     ∙ ap (λ x. parts x rs) c.verdict-verdict.ensures ∙ ap (λ (x : List Row). parts c.args.found.now.verdict x) c.rows-rows.ensures

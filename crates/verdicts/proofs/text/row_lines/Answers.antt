@@ -10,7 +10,7 @@ loop-row-preserved c =
     let i = c.loop-row.row-index in
     let d : Row = record { trues = 0; falses = 0 } in
     let more = at_drop_more row_lines rows i d c.loop-row-test.true in
-    let line = c.in-ok-push_str.ensures.bytes ∙ ap (λ (x : List ℕ). string_bytes c.loop-row.text ++ x) (c.as_str.ensures.value ∙ c.in-ok-line.ensures) in
+    let line = c.in_ok-push_str.ensures.bytes ∙ ap (λ (x : List ℕ). string_bytes c.loop-row.text ++ x) (c.as_str.ensures.value ∙ c.in_ok-line.ensures) in
     ap (λ (x : List ℕ). x ++ row_lines (drop (i + 1) rows)) line ∙ append_assoc (string_bytes c.loop-row.text) _ (row_lines (drop (i + 1) rows))
     ∙ ap (λ (x : List ℕ). string_bytes c.loop-row.text ++ x) (sym more) ∙ c.loop-row.invariant
 

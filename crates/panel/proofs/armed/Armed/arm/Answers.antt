@@ -9,8 +9,8 @@ use Rattle.meaning.specs.declared.answers.Verdict.TheVariants.{Holds, Fails}
 use Rattle.panel.specs.Cases.{worlds_in}
 use Rattle.panel.proofs.armed.Armed.arm.Goals as goal
 
-pub invariant-of-result : goal.invariant-of-result
-invariant-of-result c =
+pub invariant_of-result : goal.invariant_of-result
+invariant_of-result c =
     let l = c.args.loaded in
     let k = kept (procedure_of l.file.now) l.n l.goal.trues l.goal.falses l.actions l.plan l.len l.held in
     let p = k.p in

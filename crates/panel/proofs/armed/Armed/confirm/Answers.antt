@@ -9,8 +9,8 @@ use Rattle.panel.proofs.Confirms.{confirm_did, confirm_reads, confirm_ended}
 use Rattle.panel.proofs.Onward.{StepsTo, ready_did, ready_asks, ready_fails_not, ended_finish, asks_at}
 use Rattle.panel.proofs.armed.Armed.confirm.Goals as goal
 
-pub invariant-of-result : goal.invariant-of-result
-invariant-of-result c =
+pub invariant_of-result : goal.invariant_of-result
+invariant_of-result c =
     let a = c.args.self in
     let steps : StepsTo a.loaded.value.file.now a.run (Did c.in-Did.number c.in-Did.run') = subst (λ v. StepsTo v.file.now a.run (Did c.in-Did.number c.in-Did.run')) c.take-loaded.ensures c.in-Did.ensures in (
       a.raised,
@@ -21,8 +21,8 @@ invariant-of-result c =
       ),
     )
 
-pub invariant-of-result-in-Asks : goal.invariant-of-result-in-Asks
-invariant-of-result-in-Asks c =
+pub invariant_of-result-in-Asks : goal.invariant_of-result-in-Asks
+invariant_of-result-in-Asks c =
     let a = c.args.self in
     let steps : StepsTo a.loaded.value.file.now a.run (Asks c.in-Asks.pending) = subst (λ v. StepsTo v.file.now a.run (Asks c.in-Asks.pending)) c.take-loaded.ensures c.in-Asks.ensures in (
       a.raised,

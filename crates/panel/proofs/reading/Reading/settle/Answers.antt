@@ -5,8 +5,8 @@ use Rattle.panel.specs.Ready.{Ready}
 use Rattle.panel.proofs.Onward.{settled_ready}
 use Rattle.panel.proofs.reading.Reading.settle.Goals as goal
 
-pub invariant-of-result : goal.invariant-of-result
-invariant-of-result c =
+pub invariant_of-result : goal.invariant_of-result
+invariant_of-result c =
     let x = c.args.self in
     let run = c.in-Ok.run' in
     let told = c.in-Ok.ensures.learned in (

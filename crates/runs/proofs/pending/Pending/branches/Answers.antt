@@ -1,6 +1,6 @@
 use Rattle.std.proofs.Common.{◌≡◌, ℕ, ◌+◌, Bool, true, false, MatchBool, sym, refl, ap, ◌∙◌, subst, inl, inr, arith}
 use Rattle.fluents.specs.Sets.{bit}
-use Rattle.plans.specs.Trees.{Plan, ask, past, NodeAt}
+use Rattle.plans.specs.Trees.{ask, past, NodeAt}
 use Rattle.plans.proofs.Places.{node_true}
 use Rattle.runs.proofs.Room.{room}
 use Rattle.runs.proofs.pending.Pending.branches.Goals as goal

@@ -1,15 +1,15 @@
-use Rattle.std.proofs.Common.{◌≡◌, ℕ, ◌+◌, ◌<◌, ◌≤◌, Bool, true, false, sym, refl, ap, ◌∙◌, subst, inl, inr, arith}
+use Rattle.std.proofs.Common.{◌≡◌, sym, refl, ap, subst, inl, inr, arith}
 use Rattle.std.proofs.lemmas.Bool.{both_ways}
 use Rattle.knowledge.specs.declared.states.Row.{Row}
-use Rattle.plans.specs.Trees.{Plan, finish, act, ask, gap, NodeAt}
+use Rattle.plans.specs.Trees.{act, NodeAt}
 use Rattle.procedure.specs.Acts.{row_of}
 use Rattle.meaning.specs.Sets.{Covers}
 use Rattle.runs.specs.Stepping.{Stepped}
 use Rattle.meaning.specs.declared.answers.Cause.TheVariants.{UnmetConditions, GoalUnknown}
 use Rattle.runs.specs.declared.pending.Pending.{Pending}
 use Rattle.runs.specs.declared.run.Run.{Run}
-use Rattle.runs.specs.declared.run.Step.TheVariants.{Did, Asks, Ended, Failed}
-use Rattle.runs.proofs.Nodes.{shown_end, shown_doing, shown_reading, shown_gap}
+use Rattle.runs.specs.declared.run.Step.TheVariants.{Did, Asks, Failed}
+use Rattle.runs.proofs.Nodes.{shown_end, shown_doing, shown_reading}
 use Rattle.runs.proofs.Room.{room}
 use Rattle.runs.proofs.run.Run.step.Goals as goal
 
