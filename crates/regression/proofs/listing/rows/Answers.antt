@@ -20,14 +20,14 @@ rows_at-requires c = stands_root c.args.loaded.now c.plan.result.place (λ p is.
 no_rows : {A : Type 0} (r : Result A Fault) (e : Fault) (P : A → Type 0) → r ≡ Err e → IfOk r P
 no_rows r e P is = subst (λ x. IfOk x P) (sym is) tt
 
-pub returns-in-err-rooted : goal.returns-in-err-rooted
-returns-in-err-rooted c =
+pub returns-in_err-rooted : goal.returns-in_err-rooted
+returns-in_err-rooted c =
     let e = err_from_is_err_and c.from_residual.result c.from_residual.ensures.1 in
     record {
       value = λ p is.
           let place = (c.plan.ensures.value p is).1 in
           rw (e.1, e.2) (
-            sym (ap (λ (i : ℕ). rows_at p i p.plan) place) ∙ c.in-err-rooted.ensures p is p.plan (root_node p c.plan.result.place place),
+            sym (ap (λ (i : ℕ). rows_at p i p.plan) place) ∙ c.in_err-rooted.ensures p is p.plan (root_node p c.plan.result.place place),
             refl,
           );
       list = λ p is. no_rows _ e.0 _ e.1;
@@ -39,12 +39,12 @@ returns-in-err-rooted c =
 pub returns : goal.returns
 returns c =
     let rs = c.as_slice-rows.result.now in
-    let l = c.in-ok-rooted.rooted.listed in
+    let l = c.in_ok-rooted.rooted.listed in
     let written = c.copy_from_slice.ensures.after in
     let file = c.args.loaded.now.file.now in
     let listed : (p : Procedure) → procedure_of file ≡ Ok p → rows_of p.goal (tree_of p) ≡ Ok (take (length rs) (c.copy_from_slice.new.self ++ drop (length rs - 0) c.args.out.now)) = λ p is.
     let place = (c.plan.ensures.value p is).1 in
-    let got = c.in-ok-rooted.ensures p is p.plan (root_node p c.plan.result.place place) in
+    let got = c.in_ok-rooted.ensures p is p.plan (root_node p c.plan.result.place place) in
     sym (ap (λ (i : ℕ). rows_at p i p.plan) place) ∙ got.0
     ∙ ap Ok (sym c.as_slice-rows.ensures ∙ sym (take_at c.copy_from_slice.new.self _ (length rs) (ap length written) ∙ written)) in
     record {

@@ -4,7 +4,7 @@ use Rattle.knowledge.specs.declared.states.Row.{Row}
 use Rattle.meaning.specs.Rows.{keep, allows}
 use Rattle.regression.proofs.Lists.{keep_yes, keep_no}
 use Rattle.regression.proofs.reading.agreeing.Goals as goal
-use Rattle.regression.proofs.reading.agreeing.Goals.{then_agrees, else-agrees}
+use Rattle.regression.proofs.reading.agreeing.Goals.{then-agrees, else-agrees}
 
 pub loop-row-preserved : goal.loop-row-preserved
 loop-row-preserved c =
@@ -16,7 +16,7 @@ loop-row-preserved c =
     let next : take (l.row-index + 1) rs ≡ xs ++ x ∷ [] = take_more rs l.row-index _ c.loop-row-test.true in
     let at : l.count < length l.rows = omega (arith, l.invariant.0, l.invariant.1, c.loop-row-test.true, c.requires) in
     elim c.if-agrees.branch [
-      | then_agrees w ↦ (
+      | then-agrees w ↦ (
         ap length w.rows-is ∙ length-set l.rows l.count x ∙ l.invariant.0,
         omega (arith, w.count-is, l.invariant.1),
         ap (λ (n : ℕ). take n c.if-agrees.rows) w.count-is ∙ ap (take (l.count + 1)) w.rows-is ∙ take_more_set l.rows l.count x at

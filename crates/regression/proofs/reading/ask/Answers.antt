@@ -1,4 +1,4 @@
-use Rattle.std.proofs.Common.{◌≡◌, ℕ, true, false, List, [], ◌++◌, map, take, ap, ◌∙◌}
+use Rattle.std.proofs.Common.{◌≡◌, ℕ, true, false, List, ◌++◌, map, take, ap, ◌∙◌}
 use Rattle.knowledge.specs.declared.states.Row.{Row}
 use Rattle.meaning.specs.Rows.{guarded, plus, less, pairs}
 use Rattle.procedure.specs.Acts.{row_of}

@@ -18,13 +18,13 @@ front c =
 long : (c : goal.After-keep_least-count) → length (take c.keep_least-count.result c.keep_least-count.new.items) ≡ c.keep_least-count.result
 long c = length-take-le c.keep_least-count.result c.keep_least-count.new.items (omega arith)
 
-pub invariant-of-self : goal.invariant-of-self
-invariant-of-self c = (omega arith, (search (rules, places), tt))
+pub invariant_of-self : goal.invariant_of-self
+invariant_of-self c = record { few = omega arith; long = search (rules, places) }
 
-pub returns-then-count-gt-MOST-ROWS : goal.returns-then-count-gt-MOST-ROWS
-returns-then-count-gt-MOST-ROWS c =
-    let e = front (goal.at.returns-then-count-gt-MOST-ROWS c).After-keep_least-count in
-    limited_many c.args.place _ _ e (omega (arith, long (goal.at.returns-then-count-gt-MOST-ROWS c).After-keep_least-count))
+pub returns-then-count-gt-MOST_ROWS : goal.returns-then-count-gt-MOST_ROWS
+returns-then-count-gt-MOST_ROWS c =
+    let e = front (goal.at.returns-then-count-gt-MOST_ROWS c).After-keep_least-count in
+    limited_many c.args.place _ _ e (omega (arith, long (goal.at.returns-then-count-gt-MOST_ROWS c).After-keep_least-count))
 
 pub returns : goal.returns
 returns c =
