@@ -5,11 +5,10 @@ use Rattle.knowledge.specs.declared.states.Row.{Row}
 use Rattle.plans.specs.Trees.{Plan, finish, act, ask, gap, past, NodeAt}
 use Rattle.plans.proofs.Places.{node_rest, node_true, node_false}
 use Rattle.procedure.specs.Procedures.{Act, reading, Procedure, procedure_of}
-use Rattle.meaning.specs.Follows.{Follows, Then}
-use Rattle.meaning.specs.Sets.{Covers, Moved, Told, Possible, Either}
+use Rattle.meaning.specs.Follows.{Follows}
+use Rattle.meaning.specs.Sets.{Covers, Moved, Told, Possible}
 use Rattle.meaning.specs.Steps.{Steps, does, reads, act_at, steps_of}
 use Rattle.meaning.specs.declared.answers.Cause.{Cause}
-use Rattle.meaning.specs.declared.answers.Verdict.{Verdict}
 use Rattle.meaning.specs.declared.answers.Verdict.TheVariants.{Holds, Fails}
 use Rattle.meaning.proofs.Following.{follows_same, follows_only}
 use Rattle.meaning.proofs.Walking.{same_sym, either_then}

@@ -1,10 +1,8 @@
 -- What Confirm gives is a step of the walk. Assumes nothing.
-use Rattle.std.proofs.Common.{◌≡◌, ℕ, List, sym, refl, ap, ◌∙◌, subst, inl, inr, arith}
-use Rattle.knowledge.specs.Meaning.{Same}
+use Rattle.std.proofs.Common.{◌≡◌, ℕ, List, sym, refl, ap, subst, inl, arith}
 use Rattle.knowledge.specs.declared.states.Row.{Row}
 use Rattle.plans.specs.Trees.{Plan, finish, act, ask, gap}
 use Rattle.procedure.specs.Procedures.{Act}
-use Rattle.meaning.specs.Sets.{Moved}
 use Rattle.runs.specs.Stepping.{Stepped}
 use Rattle.runs.specs.declared.run.Step.TheVariants.{Did as DidStep, Asks, Ended as EndedStep}
 use Rattle.panel.specs.Cases.{worlds_in}

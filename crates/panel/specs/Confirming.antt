@@ -17,7 +17,6 @@ use Rattle.panel.specs.Cases.{worlds_in}
 use Rattle.panel.specs.declared.answers.Confirmed.{Confirmed}
 use Rattle.panel.specs.declared.answers.Confirmed.TheVariants.{Did, Reads, Ended}
 use Rattle.panel.specs.declared.answers.Over.{Over}
-use Rattle.panel.specs.declared.answers.Denied.{Denied}
 use Rattle.panel.specs.declared.answers.Settled.{Settled}
 use Rattle.panel.specs.declared.answers.Settled.TheVariants.{Goes, Refused}
 use Rattle.panel.specs.declared.armed.Armed.{Armed}

@@ -1,5 +1,5 @@
 -- What a whole visit comes to: an armed run along readings is the walk. Assumes nothing.
-use Rattle.std.specs.Prelude.{◌≡◌, ℕ, Bool, List}
+use Rattle.std.specs.Prelude.{◌≡◌, Bool, List}
 use Rattle.fluents.specs.Refusals.{fault_at}
 use Rattle.fluents.specs.declared.faults.Refusal.TheVariants.{VerdictFails}
 use Rattle.procedure.specs.Procedures.{Procedure}

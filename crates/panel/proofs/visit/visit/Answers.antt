@@ -1,23 +1,19 @@
-use Rattle.std.proofs.Common.{◌≡◌, ℕ, ◌+◌, ◌<◌, ◌≤◌, Bool, true, false, List, ◌∷◌, length, get_or, drop, Ok, sym, refl, ap, ◌∙◌, subst, arith}
+use Rattle.std.proofs.Common.{◌≡◌, ℕ, ◌+◌, Bool, false, List, Ok, sym, refl, ap, ◌∙◌, subst, arith}
 use Rattle.std.proofs.lemmas.List.{drop_more}
 use Rattle.permit.specs.Words.{lowered, raised, bit_zero}
 use Rattle.permit.specs.declared.Permit.{Permit}
 use Rattle.permit.proofs.Bits.{lowered_back}
 use Rattle.plans.specs.Trees.{past}
 use Rattle.procedure.specs.Procedures.{Procedure, procedure_of}
-use Rattle.procedure.specs.declared.loaded.Loaded.{Loaded}
 use Rattle.procedure.proofs.Holding.{Kept, kept}
 use Rattle.procedure.proofs.Walking.{ok_same}
-use Rattle.meaning.specs.Follows.{Follows}
 use Rattle.meaning.specs.Steps.{tree_of}
 use Rattle.meaning.specs.Walks.{Walks}
 use Rattle.meaning.specs.declared.answers.Stop.{Stop}
 use Rattle.meaning.specs.declared.answers.Stop.TheVariants.{EndedWell, Refused, UsedUp}
-use Rattle.meaning.specs.declared.answers.Verdict.TheVariants.{Holds}
 use Rattle.meaning.proofs.Covering.{covered_safe}
 use Rattle.meaning.proofs.Following.{holds_well}
-use Rattle.runs.proofs.Along.{Along, along_begun, along_within, along_did, further_did, along_ended, waiting, waiting_node, along_used_up, along_refused, along_settled, further_settled}
-use Rattle.panel.specs.Arming.{ArmedAs}
+use Rattle.runs.proofs.Along.{along_begun, along_within, along_did, further_did, along_ended, waiting, waiting_node, along_used_up, along_refused, along_settled, further_settled}
 use Rattle.panel.specs.Cases.{worlds_in}
 use Rattle.panel.specs.declared.known.Known.{Known}
 use Rattle.panel.specs.Possible.{known_some}

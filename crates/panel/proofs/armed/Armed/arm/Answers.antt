@@ -1,11 +1,11 @@
-use Rattle.std.proofs.Common.{◌≡◌, ℕ, Ok, sym, refl, ap, ◌∙◌, subst, arith}
+use Rattle.std.proofs.Common.{◌≡◌, ℕ, sym, refl, ap, ◌∙◌, subst, arith}
 use Rattle.plans.specs.Trees.{NodeAt}
 use Rattle.plans.proofs.Places.{node_root}
-use Rattle.procedure.specs.Procedures.{Procedure, procedure_of}
+use Rattle.procedure.specs.Procedures.{procedure_of}
 use Rattle.procedure.proofs.Holding.{kept}
 use Rattle.meaning.specs.Follows.{Follows}
 use Rattle.meaning.specs.Steps.{steps_of, tree_of}
-use Rattle.meaning.specs.declared.answers.Verdict.TheVariants.{Holds, Fails}
+use Rattle.meaning.specs.declared.answers.Verdict.TheVariants.{Holds}
 use Rattle.panel.specs.Cases.{worlds_in}
 use Rattle.panel.proofs.armed.Armed.arm.Goals as goal
 
@@ -16,22 +16,20 @@ invariant_of-result c =
     let p = k.p in
     let run = c.begin-run.result in
     let there = c.begin-run.ensures.1 p k.is in
-    let holds : Follows p.goal (tree_of p) (worlds_in c.args.start) Holds = c.in-Holds.ensures.value p k.is in (
-      c.raise-permit.ensures.zero,
-      (
-        ∣
-            record {
-              p = p;
-              is = ap (λ v. procedure_of v.file.now) c.put.ensures ∙ k.is;
-              q = p.plan;
-              at = subst (λ j. NodeAt p.place p.plan j p.plan) (sym there) (node_root p.plan p.place);
-              holds = subst (λ j. Follows p.goal (steps_of p.actions j p.plan) (worlds_in run.knowledge) Holds) (sym there)
-                  (subst (λ x. Follows p.goal (tree_of p) (worlds_in x) Holds) (sym c.begin-run.ensures.0) holds);
-            }
-            ∣₁,
-        tt,
-      ),
-    )
+    let holds : Follows p.goal (tree_of p) (worlds_in c.args.start) Holds = c.in-Holds.ensures.value p k.is in record {
+      raised = c.raise-permit.ensures.zero;
+      ready =
+          ∣
+          record {
+            p = p;
+            is = ap (λ v. procedure_of v.file.now) c.put.ensures ∙ k.is;
+            q = p.plan;
+            at = subst (λ j. NodeAt p.place p.plan j p.plan) (sym there) (node_root p.plan p.place);
+            holds = subst (λ j. Follows p.goal (steps_of p.actions j p.plan) (worlds_in run.knowledge) Holds) (sym there)
+                (subst (λ x. Follows p.goal (tree_of p) (worlds_in x) Holds) (sym c.begin-run.ensures.0) holds);
+          }
+          ∣₁;
+    }
 
 pub returns-in-Fails : goal.returns-in-Fails
 returns-in-Fails c = record {

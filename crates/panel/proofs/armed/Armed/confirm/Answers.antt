@@ -1,7 +1,7 @@
-use Rattle.std.proofs.Common.{◌≡◌, ℕ, Ok, sym, refl, ap, ◌∙◌, subst}
+use Rattle.std.proofs.Common.{sym, refl, ap, ◌∙◌, subst}
 use mathlib.Core.Logic.{∥∥₁_elim, ∥∥₁_map}
-use Rattle.procedure.specs.Procedures.{Procedure, procedure_of}
-use Rattle.runs.specs.declared.run.Step.TheVariants.{Did, Asks, Ended, Failed}
+use Rattle.procedure.specs.Procedures.{procedure_of}
+use Rattle.runs.specs.declared.run.Step.TheVariants.{Did, Asks, Failed}
 use Rattle.runs.proofs.Along.{at_doing}
 use Rattle.panel.specs.Cases.{worlds_in}
 use Rattle.panel.specs.Ready.{Ready, Asked}
@@ -12,26 +12,22 @@ use Rattle.panel.proofs.armed.Armed.confirm.Goals as goal
 pub invariant_of-result : goal.invariant_of-result
 invariant_of-result c =
     let a = c.args.self in
-    let steps : StepsTo a.loaded.value.file.now a.run (Did c.in-Did.number c.in-Did.run') = subst (λ v. StepsTo v.file.now a.run (Did c.in-Did.number c.in-Did.run')) c.take-loaded.ensures c.in-Did.ensures in (
-      a.raised,
-      (
-        ∥∥₁_map a.ready (λ r. subst (λ v. Ready v.file.now c.in-Did.run') (sym (c.put-loaded.ensures ∙ c.take-loaded.ensures))
-            (ready_did a.loaded.value.file.now a.run c.in-Did.number c.in-Did.run' steps r)),
-        tt,
-      ),
-    )
+    let steps : StepsTo a.loaded.value.file.now a.run (Did c.in-Did.number c.in-Did.run') = subst (λ v. StepsTo v.file.now a.run (Did c.in-Did.number c.in-Did.run')) c.take-loaded.ensures c.in-Did.ensures in record {
+      raised = a.raised;
+      ready =
+          ∥∥₁_map a.ready (λ r. subst (λ v. Ready v.file.now c.in-Did.run') (sym (c.put-loaded.ensures ∙ c.take-loaded.ensures))
+          (ready_did a.loaded.value.file.now a.run c.in-Did.number c.in-Did.run' steps r));
+    }
 
 pub invariant_of-result-in-Asks : goal.invariant_of-result-in-Asks
 invariant_of-result-in-Asks c =
     let a = c.args.self in
-    let steps : StepsTo a.loaded.value.file.now a.run (Asks c.in-Asks.pending) = subst (λ v. StepsTo v.file.now a.run (Asks c.in-Asks.pending)) c.take-loaded.ensures c.in-Asks.ensures in (
-      a.raised,
-      (
-        ∥∥₁_map a.ready (λ r. subst (λ v. Asked v.file.now c.in-Asks.pending) (sym (c.put-loaded.ensures ∙ c.take-loaded.ensures))
-            (ready_asks a.loaded.value.file.now a.run c.in-Asks.pending steps r)),
-        tt,
-      ),
-    )
+    let steps : StepsTo a.loaded.value.file.now a.run (Asks c.in-Asks.pending) = subst (λ v. StepsTo v.file.now a.run (Asks c.in-Asks.pending)) c.take-loaded.ensures c.in-Asks.ensures in record {
+      raised = a.raised;
+      asked =
+          ∥∥₁_map a.ready (λ r. subst (λ v. Asked v.file.now c.in-Asks.pending) (sym (c.put-loaded.ensures ∙ c.take-loaded.ensures))
+          (ready_asks a.loaded.value.file.now a.run c.in-Asks.pending steps r));
+    }
 
 pub unreachable-requires : goal.unreachable-requires
 unreachable-requires c =
