@@ -1,5 +1,5 @@
 -- The worlds that extend a partial state, and what acting and learning make of them. Assumes nothing.
-use Rattle.std.proofs.Common.{◌≡◌, ℕ, ◌^◌, ◌<◌, Bool, true, false, not, ◌&&◌, ◌||◌, eqb, sym, refl, ap, ◌∙◌, subst, arith, eq-eqb, eqb-true}
+use Rattle.std.proofs.Common.{◌≡◌, ℕ, ◌^◌, ◌<◌, Bool, true, false, not, ◌&&◌, ◌||◌, eqb, sym, refl, ap, ◌∙◌, arith, eq-eqb, eqb-true}
 use lib.Bits.{or_lt, xor_lt, and_lt, and_self, and_comm, bit_and}
 use lib.Pow.{pow-lt}
 use Rattle.fluents.specs.Sets.{bit, only, union, minus, Apart, Within}

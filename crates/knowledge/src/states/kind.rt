@@ -1,6 +1,6 @@
 // A partial state as knowledge: all worlds that extend it.
 ghost use Rattle.std.specs.Prelude.{◌≡◌, ℕ, IfOk, if◌then◌else◌, MatchResult};
-ghost use Rattle.std.proofs.Common.{◌∙◌, rules, arith};
+ghost use Rattle.std.proofs.Common.{◌∙◌};
 ghost use Rattle.fluents.specs.Refusals.{fault_at};
 ghost use Rattle.fluents.specs.declared.faults.Refusal.TheVariants.{Contradiction};
 ghost use Rattle.fluents.specs.Sets.{only, union, minus};
@@ -21,7 +21,7 @@ impl Knowledge for PartialState {
 
     ghost some = { λ s. (s.trues, (s.fit, and_self s.trues, and_comm s.falses s.trues ∙ s.apart)) };
 
-    ghost fit = { first_of (Prim.search rules, Prim.grind (arith, Self.row.coded.inj)) };
+    ghost fit = { λ s w h. h.0 };
 
     fn knows(&self, literal: Literal) -> bool {
         let index = literal.fluent.index();

@@ -1,4 +1,4 @@
-use Rattle.std.proofs.Common.{◌≡◌, ℕ, ◌<◌, length, get_or, sym, ap, ◌∙◌, subst, arith, below_more}
+use Rattle.std.proofs.Common.{◌≡◌, ℕ, get_or, sym, ap, ◌∙◌, subst, arith, below_more}
 use Rattle.std.proofs.ByRecursion.{has_get_or}
 use Rattle.fluents.specs.Sets.{bit}
 use Rattle.knowledge.specs.Meaning.{HoldsIn}

@@ -1,4 +1,4 @@
-use Rattle.std.proofs.Common.{◌≡◌, ℕ, ◌<◌, ◌≤◌, map, length, take}
+use Rattle.std.proofs.Common.{◌≡◌, map, length, take}
 use Rattle.fluents.specs.Sets.{union, minus}
 use Rattle.knowledge.proofs.worlds.kind.changed.Given as goal
 

@@ -1,4 +1,4 @@
-use Rattle.std.proofs.Common.{◌≡◌, ℕ, ◌<◌, ◌≤◌, length, get_or, take}
+use Rattle.std.proofs.Common.{◌≡◌, ◌≤◌, length, take}
 use Rattle.knowledge.proofs.Choosing.{Chosen}
 use Rattle.knowledge.specs.Meaning.{HoldsIn}
 use Rattle.knowledge.proofs.worlds.kind.with_literal.Given as goal

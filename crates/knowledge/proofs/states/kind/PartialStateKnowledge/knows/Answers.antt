@@ -1,5 +1,4 @@
-use Rattle.std.proofs.Common.{◌≡◌, ℕ, ◌^◌, ◌<◌, Bool, true, false, sym, refl, ap, ◌∙◌, subst}
-use lib.Bits.{and_self, and_comm}
+use Rattle.std.proofs.Common.{◌≡◌, sym, ap, ◌∙◌}
 use Rattle.fluents.specs.Sets.{bit}
 use Rattle.knowledge.proofs.Extending.{knows_true, knows_false}
 use Rattle.knowledge.proofs.states.kind.PartialStateKnowledge.knows.Goals as goal

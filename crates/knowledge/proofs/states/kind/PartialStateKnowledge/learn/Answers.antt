@@ -1,4 +1,4 @@
-use Rattle.std.proofs.Common.{◌≡◌, ℕ, true, false, cond, sym, ap, ◌∙◌, subst}
+use Rattle.std.proofs.Common.{◌≡◌, ℕ, false, cond, sym, ap, ◌∙◌, subst}
 use lib.Bits.{or_lt, and_comm, bit_and}
 use Rattle.fluents.specs.Sets.{Apart, Within, bit, only, union}
 use Rattle.fluents.proofs.Bits.{within_members, apart_members}

@@ -1,4 +1,4 @@
-use Rattle.std.proofs.Common.{◌≡◌, ℕ, ◌-◌, List, map, take, sym, ap, ◌∙◌, subst, ap₂, arith}
+use Rattle.std.proofs.Common.{◌≡◌, ℕ, ◌-◌, map, take, sym, ap, ◌∙◌, subst, ap₂, arith}
 use Rattle.std.specs.List.{ContainsAt as Has}
 use Rattle.fluents.specs.Sets.{union, minus}
 use Rattle.knowledge.specs.Meaning.{after}
