@@ -1,5 +1,5 @@
 -- Where each key leads: the permit stays the same until the run has ended, and the place goes on. Assumes nothing.
-use Rattle.std.proofs.Common.{◌≡◌, ℕ, ◌<◌, Bool, List, length, Ok, sym, ap, ◌∙◌, subst, arith, Bor, MutBor}
+use Rattle.std.proofs.Common.{◌≡◌, ℕ, ◌<◌, Bool, List, length, Ok, sym, ap, ◌∙◌, subst, arith, MutBor}
 use mathlib.Core.Bool.{Bool-set}
 use mathlib.Core.Logic.{∥∥₁_elim}
 use native.Mathlib.Bridge.{le_prop}
@@ -46,7 +46,7 @@ same_then p q r s t = record {
   earlier = t.earlier ∙ s.earlier;
 }
 
-pub lowered_then : (p q : Permit) (word : Bor ℕ) → SamePermit p q → Lowered q word → Lowered p word
+pub lowered_then : (p q : Permit) (word : MutBor ℕ) → SamePermit p q → Lowered q word → Lowered p word
 lowered_then p q word s l = record {
   held = l.held ∙ s.held;
   value = l.value ∙ ap (λ b. lowered b q.word.now) s.earlier ∙ ap (λ (w : ℕ). lowered p.earlier w) s.value;
