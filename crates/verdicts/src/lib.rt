@@ -21,7 +21,7 @@ pub mod text;
 
 // The verdict at the start and the rows; where there are too many rows, only that is said.
 fn checked<K: Knowledge>(loaded: &Loaded, start: K) -> Report
-    ensures { (p : Procedure) → procedure_of loaded.now.file.now ≡ Ok p → Found p (worlds start) result }
+    ensures { (p : Procedure) → procedure_of loaded.now.file.now ≡ Ok p → Found p (K.worlds start) result }
 {
     let verdict = follow(loaded, start);
     let mut listed = [Row {

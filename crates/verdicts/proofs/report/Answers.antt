@@ -1,5 +1,4 @@
-use Rattle.std.proofs.Common.{◌≡◌, ℕ, Ok, Err, sym, refl, ap, ◌∙◌, subst}
-use Rattle.knowledge.specs.Listed.{Lists}
+use Rattle.std.proofs.Common.{◌≡◌, ℕ, Ok, sym, refl, ap, ◌∙◌, subst}
 use Rattle.knowledge.specs.Meaning.{Same}
 use Rattle.knowledge.specs.declared.states.PartialState.{PartialState}
 use Rattle.knowledge.specs.declared.worlds.WorldList.{WorldList}

@@ -1,4 +1,4 @@
-use Rattle.std.proofs.Common.{◌≡◌, ℕ, List, ◌++◌, length, codes, decimal, sym, ap, ◌∙◌, append_assoc}
+use Rattle.std.proofs.Common.{◌≡◌, ℕ, List, ◌++◌, length, codes, decimal, ap, ◌∙◌, append_assoc}
 use Rattle.knowledge.specs.declared.states.Row.{Row}
 use Rattle.meaning.specs.Texts.{verdict_text}
 use Rattle.meaning.specs.declared.answers.Verdict.{Verdict}

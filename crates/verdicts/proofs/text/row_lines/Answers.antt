@@ -1,7 +1,7 @@
-use Rattle.std.proofs.Common.{◌≡◌, ℕ, ◌+◌, List, [], ◌++◌, drop, string_bytes, sym, ap, ◌∙◌, append_assoc, append-nil}
+use Rattle.std.proofs.Common.{ℕ, ◌+◌, List, ◌++◌, drop, string_bytes, sym, ap, ◌∙◌, append_assoc, append-nil}
 use Rattle.std.proofs.lemmas.List.{at_drop_more, drop_all}
 use Rattle.knowledge.specs.declared.states.Row.{Row}
-use Rattle.verdicts.specs.Lines.{row_line, row_lines}
+use Rattle.verdicts.specs.Lines.{row_lines}
 use Rattle.verdicts.proofs.text.row_lines.Goals as goal
 
 pub loop-row-preserved : goal.loop-row-preserved
