@@ -1,9 +1,7 @@
-// A value on its way through an enum.
+// A value on its way through an enum, as in `Result<Kept<Selected<'a>>, Fault>`.
 //
-// The checker's generated proofs do not cover an enum that holds a reference and a struct with a
-// type invariant (a ghost field), as `Result<Selected<'a>, Fault>`. A struct with an `owns` field
-// is opaque to them, so `Result<Kept<Selected<'a>>, Fault>` is covered. `Kept` takes no memory of
-// its own: it is its value.
+// A struct whose `Model` has `also_owns` is opaque to the checker's generated proofs: they pass it
+// on whole. `Kept` takes no memory of its own: it is its value.
 #![tactic(auto)]
 
 ghost use Rattle.std.specs.Prelude.{◌≡◌};
