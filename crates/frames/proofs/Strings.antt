@@ -1,7 +1,7 @@
 -- A file without a flaw is a string composed of frames, and such a string has no flaw. Assumes nothing.
 use Rattle.std.proofs.Common.{◌≡◌, ℕ, zero, suc, ◌+◌, ◌-◌, ◌*◌, ◌/◌, ◌%◌, ◌<◌, ◌≤◌, Bool, true, false, ◌||◌, eqb, leb, ◌⊎◌, List, [], ◌∷◌, ◌++◌, length, get_or, take, drop, is_ok, None, Ok, Err, sum, Result, sym, refl, ap, ◌∙◌, inl, inr, append_assoc, arith, length-drop, eq-eqb, eqb-true, le-leb}
 use borrow.Author.Tests.{lt-leb, both_ways}
-use Rattle.std.specs.List.{flat_map, AllByRecursion as All}
+use Rattle.std.specs.List.{flat_map, AllByRecursion}
 use Rattle.std.proofs.lemmas.List.{get_or-drop, drop-drop, drop_more, drop_all, take-append-drop, take_at, drop_at}
 use Rattle.std.proofs.lemmas.Bool.{true≢false, and_left, and_right, or_left, or_cases}
 use Rattle.std.proofs.lemmas.Bool.Decides.{nat_tests}
@@ -171,8 +171,8 @@ start_kind k (inr e) = ap (is_due Start) e
 
 -- from place p on the file is some actions, a plan and a start: it is read to its end
 rest_reads : (s : List ℕ) (actions : List Content) (plan start : Content) (room p : ℕ)
-    → All (λ a. (a.kind ≡ 2) ⊎ (a.kind ≡ 3)) actions → plan.kind ≡ 4 → (start.kind ≡ 5) ⊎ (start.kind ≡ 6)
-    → length actions ≤ room → All Fit (actions ++ plan ∷ start ∷ [])
+    → AllByRecursion (λ a. (a.kind ≡ 2) ⊎ (a.kind ≡ 3)) actions → plan.kind ≡ 4 → (start.kind ≡ 5) ⊎ (start.kind ≡ 6)
+    → length actions ≤ room → AllByRecursion Fit (actions ++ plan ∷ start ∷ [])
     → drop p s ≡ flat_map bytes_of (actions ++ plan ∷ start ∷ [])
     → (rest : Rest) × (rest_from room s p ≡ Ok rest)
 rest_reads s [] plan start room p kinds isPlan is_start few fits is =
@@ -228,11 +228,11 @@ record Tail (room : ℕ) (t : List ℕ) : Type 0 where
   actions : List Content
   plan : Content
   start : Content
-  action_kinds : All (λ a. (a.kind ≡ 2) ⊎ (a.kind ≡ 3)) actions
+  action_kinds : AllByRecursion (λ a. (a.kind ≡ 2) ⊎ (a.kind ≡ 3)) actions
   plan_kind : plan.kind ≡ 4
   start_kind : (start.kind ≡ 5) ⊎ (start.kind ≡ 6)
   few : length actions ≤ room
-  fit : All Fit (actions ++ plan ∷ start ∷ [])
+  fit : AllByRecursion Fit (actions ++ plan ∷ start ∷ [])
   bytes : t ≡ flat_map bytes_of (actions ++ plan ∷ start ∷ [])
 
 module _ (s : List ℕ) (small : (i : ℕ) → get_or s i 0 < 256) where

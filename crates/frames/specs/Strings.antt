@@ -1,6 +1,6 @@
 -- What a file is, as a string of bytes. Assumes nothing.
 use Rattle.std.specs.Prelude.{◌≡◌, ℕ, ◌%◌, ◌≤◌, true, ◌⊎◌, List, [], ◌∷◌, ◌++◌, length, sum}
-use Rattle.std.specs.List.{flat_map, AllByRecursion as All}
+use Rattle.std.specs.List.{flat_map, AllByRecursion}
 use Rattle.frames.specs.Bytes.{little_bytes}
 use Rattle.frames.specs.Frames.{is_fit}
 
@@ -32,9 +32,9 @@ pub record Composed (s : List ℕ) : Type 0 where
   pub plan : Content
   pub start : Content
   pub header_kind : header.kind ≡ 1
-  pub action_kinds : All (λ a. (a.kind ≡ 2) ⊎ (a.kind ≡ 3)) actions
+  pub action_kinds : AllByRecursion (λ a. (a.kind ≡ 2) ⊎ (a.kind ≡ 3)) actions
   pub plan_kind : plan.kind ≡ 4
   pub start_kind : (start.kind ≡ 5) ⊎ (start.kind ≡ 6)
   pub few : length actions ≤ 64
-  pub fit : All Fit (in_order header actions plan start)
+  pub fit : AllByRecursion Fit (in_order header actions plan start)
   pub bytes : s ≡ flat_map bytes_of (in_order header actions plan start)
