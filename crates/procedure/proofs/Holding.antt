@@ -9,7 +9,7 @@ use Rattle.plans.specs.Trees.{Plan, encode, NodeAt}
 use Rattle.plans.specs.declared.Flaw.{Flaw}
 use Rattle.plans.proofs.Parses.{plan_spells}
 use Rattle.plans.proofs.Places.{node_stands}
-use Rattle.frames.specs.Frames.{Frame, frame_at, after_at, length_at}
+use Rattle.frames.specs.Frames.{Frame, frame_at, length_at}
 use Rattle.frames.specs.Files.{File, frames_of}
 use Rattle.frames.specs.declared.frame.Due.TheVariants.{Body}
 use Rattle.frames.proofs.Reading.{ok_err, payload_length, whole_le}
@@ -18,7 +18,7 @@ use Rattle.procedure.specs.Fields.{is_header, row_at}
 use Rattle.procedure.specs.Held.{is_held}
 use Rattle.procedure.specs.Procedures.{Act, Procedure, then, good_or, act_of, acts_of, does_at, reads_at, placed, known_of, procedure_in, procedure_of}
 use Rattle.procedure.proofs.Rereading.{header_few}
-use Rattle.procedure.proofs.Walking.{ok_same, Tail, tail_of}
+use Rattle.procedure.proofs.Walking.{ok_same, tail_of}
 
 -- a value that a chain of parts gives: its first part gave one, and the rest gave it from that
 pub then_ok : {A B : Type 0} (r : Result A Fault) (f : A → Result B Fault) (y : B) → then r f ≡ Ok y → (x : A) × (r ≡ Ok x) × (f x ≡ Ok y)

@@ -1,5 +1,5 @@
 -- Sets whose members are all below a number. Assumes nothing.
-use Rattle.std.proofs.Common.{◌≡◌, ℕ, ◌*◌, ◌/◌, ◌^◌, ◌<◌, ◌≤◌, Bool, true, false, eqb, ltb, sym, refl, ap, ◌∙◌, subst, div-lt_iff_lt-mul, one-mul, arith, pow_pos, ltb-false, ltb-true, eq-eqb, ne_eqb}
+use Rattle.std.proofs.Common.{◌≡◌, ℕ, ◌*◌, ◌/◌, ◌^◌, ◌<◌, Bool, true, false, eqb, ltb, refl, div-lt_iff_lt-mul, one-mul, arith, pow_pos, ltb-false, ltb-true, eq-eqb, ne_eqb}
 use native.Mathlib.Nat.{div-eq_of_lt}
 
 -- the code's test: nothing is left of a set that is shifted by n places

@@ -1,11 +1,10 @@
 -- From the parts of a file to its procedure. Assumes nothing.
-use Rattle.std.proofs.Common.{◌≡◌, ℕ, zero, suc, ◌+◌, ◌<◌, true, List, [], ◌∷◌, length, get_or, Ok, Err, Result, sym, refl, ap, ◌∙◌, subst, arith}
+use Rattle.std.proofs.Common.{◌≡◌, ℕ, zero, suc, ◌+◌, ◌<◌, true, List, [], ◌∷◌, length, get_or, Ok, Err, Result, sym, refl, ap, ◌∙◌, arith}
 use Rattle.fluents.specs.declared.faults.Fault.{Fault}
 use Rattle.plans.specs.Checks.{plan_of}
-use Rattle.plans.specs.Trees.{Plan, encode}
-use Rattle.plans.proofs.Parses.{plan_spells}
+use Rattle.plans.specs.Trees.{Plan}
 use Rattle.frames.specs.Frames.{Frame}
-use Rattle.frames.specs.Files.{File, Outline, outline, frames_of, outline_of, is_laid}
+use Rattle.frames.specs.Files.{File, outline, frames_of, outline_of, is_laid}
 use Rattle.frames.proofs.Reading.{ok_err, laid_is}
 use Rattle.procedure.specs.Fields.{is_header, row_at}
 use Rattle.procedure.specs.Procedures.{Act, Known, Procedure, then, good_or, act_of, acts_of, does_at, reads_at, placed, known_of, procedure_in, procedure_of}

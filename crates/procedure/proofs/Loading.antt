@@ -1,23 +1,20 @@
 -- How far the loading of the actions has come. Assumes nothing.
-use Rattle.std.proofs.Common.{◌≡◌, ℕ, zero, suc, ◌+◌, ◌-◌, ◌<◌, ◌≤◌, Bool, true, false, ◌&&◌, ◌||◌, eqb, List, [], ◌∷◌, ◌++◌, length, None, Ok, Err, Result, sym, refl, ap, ◌∙◌, subst, arith, length-append}
+use Rattle.std.proofs.Common.{◌≡◌, ℕ, suc, ◌+◌, ◌-◌, ◌<◌, ◌≤◌, true, ◌&&◌, ◌||◌, eqb, List, [], ◌∷◌, ◌++◌, length, None, Ok, Err, Result, sym, refl, ap, ◌∙◌, arith}
 use Rattle.std.proofs.lemmas.List.{append-nil, append_assoc, length_push, nil_from_length}
-use Rattle.fluents.specs.Refusals.{fault_at}
 use Rattle.fluents.specs.Sets.{bit}
 use Rattle.fluents.specs.declared.faults.Fault.{Fault}
-use Rattle.fluents.specs.declared.faults.Refusal.TheVariants.{BadField}
 use Rattle.fluents.proofs.Bits.{bit-zero}
 use Rattle.plans.specs.declared.Sorts.{Sorts}
-use Rattle.frames.specs.Frames.{Frame, frame_at, after_at, kind_at, length_at, is_fit, flaw_at}
+use Rattle.frames.specs.Frames.{Frame, frame_at, after_at, kind_at, is_fit, flaw_at}
 use Rattle.frames.specs.Seen.{Shows, kind_of, payload_of}
 use Rattle.frames.specs.declared.frame.Due.{Due}
 use Rattle.frames.specs.declared.frame.Frame.{Frame as Held}
 use Rattle.frames.proofs.Reading.{flawless, payload_length, whole_le}
 use Rattle.frames.specs.Files.{Rest, File, rest_from, frames_of}
-use Rattle.frames.specs.declared.frame.Due.TheVariants.{Body}
 use Rattle.procedure.specs.Acts.{is_do, is_read, Sorted}
 use Rattle.procedure.specs.Procedures.{Act, then, act_of, acts_of, does_at, reads_at}
 use Rattle.procedure.proofs.Sorts.{does_more, reads_more}
-use Rattle.procedure.proofs.Walking.{Next, next_action, Opening, opening}
+use Rattle.procedure.proofs.Walking.{Next, next_action, opening}
 
 -- the actions that are done, before what the others give
 abbrev pub prefixed : List Act → Result (List Act) Fault → Result (List Act) Fault

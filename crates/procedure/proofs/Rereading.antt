@@ -1,25 +1,23 @@
 -- The frames of a selected file as the code reads them again. Assumes nothing.
-use Rattle.std.proofs.Common.{◌≡◌, ℕ, ◌+◌, ◌≤◌, Bool, true, false, cond, ◌&&◌, eqb, leb, List, length, get_or, None, Ok, Err, Result, sym, refl, ap, ◌∙◌, subst, ap₂, arith, leb-true}
+use Rattle.std.proofs.Common.{◌≡◌, ℕ, ◌+◌, ◌≤◌, Bool, true, false, cond, ◌&&◌, leb, List, length, get_or, None, Ok, Err, Result, sym, refl, ap, ◌∙◌, subst, arith, leb-true}
 use mathlib.Core.Path.{fun_ext}
 use Rattle.fluents.specs.Refusals.{fault_at}
 use Rattle.fluents.specs.Sets.{bit}
-use Rattle.fluents.specs.declared.faults.Fault.{Fault}
 use Rattle.fluents.specs.declared.faults.Refusal.TheVariants.{BadField}
 use Rattle.plans.specs.Checks.{plan_of, verdict}
 use Rattle.plans.specs.Trees.{Plan}
 use Rattle.plans.specs.declared.Flaw.{Flaw}
 use Rattle.plans.specs.declared.Sorts.{Sorts}
-use Rattle.frames.specs.Frames.{Frame, frame_at, after_at, length_at, kind_at, is_due, is_fit, flaw_at}
-use Rattle.frames.specs.Files.{File, Rest, frames_of}
-use Rattle.frames.specs.Seen.{Shows, kind_of, payload_of}
-use Rattle.frames.specs.declared.frame.Due.{Due}
+use Rattle.frames.specs.Frames.{Frame, frame_at, length_at, kind_at, flaw_at}
+use Rattle.frames.specs.Files.{File, frames_of}
+use Rattle.frames.specs.Seen.{Shows, payload_of}
 use Rattle.frames.specs.declared.frame.Due.TheVariants.{Header, Body, Start}
 use Rattle.frames.specs.declared.frame.Frame.{Frame as Held}
 use Rattle.frames.proofs.Reading.{flawless, payload_length, whole_le}
 use Rattle.procedure.specs.Acts.{Sorted}
 use Rattle.procedure.specs.Fields.{is_header, is_state, row_at}
 use Rattle.procedure.specs.Procedures.{Act, good_or, placed, does_at, reads_at}
-use Rattle.procedure.proofs.Walking.{Opening, opening, header_length, Tail, tail_of}
+use Rattle.procedure.proofs.Walking.{opening, header_length, tail_of}
 
 pub good_ok : {A : Type 0} (frame : Frame) (good : Bool) (v w : A) → good ≡ true → v ≡ w → good_or frame good v ≡ Ok w
 good_ok frame good v w e q = ap (λ b. cond b (Ok v) (Err (fault_at BadField frame.place))) e ∙ ap Ok q

@@ -1,7 +1,6 @@
 -- The code's values as the definitions see them. Assumes nothing.
-use Rattle.std.specs.Prelude.{◌≡◌, ℕ, Bool, true, false, List, Ok, Err, Result}
+use Rattle.std.specs.Prelude.{◌≡◌, ℕ, Bool, true, false, List}
 use Rattle.fluents.specs.Sets.{bit}
-use Rattle.fluents.specs.declared.faults.Fault.{Fault}
 use Rattle.knowledge.specs.declared.actions.Action.{Action}
 use Rattle.knowledge.specs.declared.actions.Action.TheVariants.{Doing, Reading}
 use Rattle.knowledge.specs.declared.states.PartialState.{PartialState}

@@ -1,5 +1,5 @@
 -- The fields of the payloads of frames, and which of them are good. Assumes nothing.
-use Rattle.std.specs.Prelude.{ℕ, zero, suc, ◌+◌, ◌/◌, ◌^◌, Bool, true, false, cond, ◌&&◌, List, [], ◌∷◌, length, ◌==◌, bit_and, nat_le, nat_lt, slice_index}
+use Rattle.std.specs.Prelude.{ℕ, zero, suc, ◌+◌, ◌/◌, ◌^◌, Bool, true, ◌&&◌, List, [], ◌∷◌, length, ◌==◌, bit_and, nat_le, nat_lt, slice_index}
 use Rattle.knowledge.specs.declared.states.Row.{Row}
 use Rattle.frames.specs.Bytes.{little}
 

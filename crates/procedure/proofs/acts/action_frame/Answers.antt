@@ -1,4 +1,4 @@
-use Rattle.std.proofs.Common.{◌≡◌, ℕ, ◌+◌, ◌<◌, length, sym, ap, ◌∙◌, subst, arith}
+use Rattle.std.proofs.Common.{◌≡◌, ℕ, ◌+◌, sym, ◌∙◌, subst, arith}
 use Rattle.frames.specs.Frames.{frame_at, after_at}
 use Rattle.frames.specs.declared.frame.Due.TheVariants.{Body}
 use Rattle.frames.proofs.Reading.{some_none, end_at}

@@ -1,8 +1,7 @@
-use Rattle.std.proofs.Common.{◌≡◌, ℕ, ◌+◌, length, Ok, Err, sym, refl, ap, ◌∙◌, subst}
+use Rattle.std.proofs.Common.{◌≡◌, ℕ, ◌+◌, length, Err, sym, ap, ◌∙◌}
 use Rattle.std.proofs.lemmas.Result.{err_from_is_err_and}
 use Rattle.fluents.specs.Refusals.{fault_at}
 use Rattle.plans.specs.Checks.{plan_of, verdict}
-use Rattle.frames.specs.declared.frame.Due.TheVariants.{Body}
 use Rattle.frames.proofs.Reading.{some_none}
 use Rattle.procedure.specs.Procedures.{does_at, reads_at}
 use Rattle.procedure.proofs.Rereading.{plan_sound, same_plan, verdict_ok, placed_err}

@@ -1,10 +1,9 @@
-use Rattle.std.proofs.Common.{◌≡◌, ℕ, true, Ok, Err, sym, ap, ◌∙◌, subst}
+use Rattle.std.proofs.Common.{sym, ap, ◌∙◌}
 use Rattle.std.proofs.lemmas.Result.{err_from_is_err_and}
-use Rattle.frames.specs.Frames.{frame_at, is_due}
+use Rattle.frames.specs.Frames.{frame_at}
 use Rattle.frames.specs.declared.frame.Due.TheVariants.{Start}
 use Rattle.frames.proofs.Reading.{some_none, flawless}
-use Rattle.procedure.specs.Procedures.{Known, known_of}
-use Rattle.procedure.specs.Starts.{Gives}
+use Rattle.procedure.specs.Procedures.{known_of}
 use Rattle.procedure.proofs.Loading.{held_fits}
 use Rattle.procedure.proofs.Rereading.{start_sound}
 use Rattle.procedure.proofs.contents.read_start.Goals as goal

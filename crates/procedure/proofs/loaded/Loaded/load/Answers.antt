@@ -1,7 +1,6 @@
-use Rattle.std.proofs.Common.{◌≡◌, ℕ, ◌+◌, ◌≤◌, length, sym, refl, ap, ◌∙◌, subst, arith, rules}
+use Rattle.std.proofs.Common.{ℕ, ◌+◌, ◌≤◌, length, sym, ap, ◌∙◌, subst, arith, rules}
 use Rattle.frames.specs.declared.frame.Due.TheVariants.{Body}
 use Rattle.frames.proofs.Reading.{whole_le}
-use Rattle.knowledge.specs.declared.worlds.WorldList.{WorldList}
 use Rattle.procedure.specs.Procedures.{procedure_of}
 use Rattle.procedure.specs.Starts.{Gives}
 use Rattle.procedure.proofs.Holding.{keeps}

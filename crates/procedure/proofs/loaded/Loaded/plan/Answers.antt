@@ -1,4 +1,4 @@
-use Rattle.std.proofs.Common.{◌≡◌, ℕ, ◌+◌, ◌-◌, ◌≤◌, length, take, drop, Ok, sym, ap, ◌∙◌, subst, arith, rules}
+use Rattle.std.proofs.Common.{◌≡◌, ℕ, ◌+◌, ◌≤◌, length, take, drop, sym, ap, ◌∙◌, arith, rules}
 use Rattle.plans.specs.Trees.{encode}
 use Rattle.procedure.specs.Procedures.{procedure_of}
 use Rattle.procedure.proofs.Holding.{kept, plan_lies, nodes_stand}
