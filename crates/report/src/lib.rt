@@ -1,4 +1,6 @@
 // What is said about a procedure file, and the one line of text that says it.
+#![tactic(auto)]
+
 ghost use Rattle.std.specs.Prelude.{◌≡◌};
 ghost use Rattle.procedure.specs.Procedures.{procedure_of};
 ghost use Rattle.report.specs.Reports.{report_of, kind_seen};

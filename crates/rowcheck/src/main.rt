@@ -1,4 +1,6 @@
 // Reads a procedure file from standard input, and prints in one line what is to be said about it.
+#![tactic(auto)]
+
 ghost use Rattle.std.specs.Prelude.{◌≤◌, IfOk, vec_len};
 
 use std::alloc::Global;

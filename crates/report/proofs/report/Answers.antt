@@ -30,5 +30,5 @@ returns-in-Ok-load c =
     let n = c.n.ensures p loaded in
     let actions = c.actions.ensures p loaded in
     let bytes = ap length (c.plan.ensures.value p loaded).0 in
-    let start = c.kind-of.ensures ∙ ap (λ v. kind_seen v.start) c.take-opened.ensures ∙ gives_kind _ _ _ p.start got.1.2 in
+    let start = c.kind_of.ensures ∙ ap (λ v. kind_seen v.start) c.take-opened.ensures ∙ gives_kind _ _ _ p.start got.1.2 in
     (λ i. Loaded (n i) (actions i) (bytes i) (start i)) ∙ ap report_of (sym here)
