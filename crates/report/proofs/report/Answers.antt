@@ -1,12 +1,10 @@
-use Rattle.std.proofs.Common.{◌≡◌, ℕ, List, length, Ok, sym, ap, ◌∙◌}
+use Rattle.std.proofs.Common.{◌≡◌, length, Ok, sym, ap, ◌∙◌}
 use Rattle.knowledge.specs.declared.worlds.WorldList.{WorldList}
-use Rattle.plans.specs.Trees.{encode}
 use Rattle.procedure.specs.Procedures.{Known, then, procedure_in, procedure_of}
 use Rattle.procedure.specs.Starts.{Gives}
 use Rattle.procedure.specs.declared.starts.Start.{Start}
 use Rattle.procedure.specs.declared.starts.Start.TheVariants.{Partial, Worlds}
 use Rattle.report.specs.Reports.{kind_of, kind_seen, report_of}
-use Rattle.report.specs.declared.text.Report.{Report}
 use Rattle.report.specs.declared.text.Report.TheVariants.{Loaded}
 use Rattle.report.proofs.report.Goals as goal
 
