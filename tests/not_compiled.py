@@ -4,8 +4,8 @@
 
 The crate `client` goes through the panel's public calls, and is proved. Each case changes its
 source in a temporary copy of the repository, and the check of the copy must then stop at the named
-error and at no other. The copy takes over what target/ has of the proved crates; where target/ is
-missing they are proved first, which takes minutes. Prints a line for each case, and at the end
+error and at no other. The crates below the client are proved first in the copy; that takes minutes
+where no check on this machine has proved them yet. Prints a line for each case, and at the end
 'N passed, M failed'.
 """
 import re
@@ -23,7 +23,6 @@ sys.path.insert(0, str(ROOT / "tools"))
 import harness
 
 CLIENT = Path("crates", "client", "src", "lib.rt")
-TAKEN_OVER = "rlib", "stamp"  # of target/: the proved crates, and what each was proved from
 SHOWN_LINES = 20  # of a check
 
 ARM = """\
@@ -110,19 +109,16 @@ CASES = [
 
 
 def copy_to(folder):
-    """Copies the crates of the repository, and what target/ has of them."""
+    """Copies the crates of the repository, without what the checks there left."""
     shutil.copy(ROOT / "crates.txt", folder)
-    shutil.copytree(ROOT / "crates", folder / "crates")
-    for part in TAKEN_OVER:
-        if (ROOT / "target" / part).is_dir():
-            shutil.copytree(ROOT / "target" / part, folder / "target" / part)
+    shutil.copytree(ROOT / "crates", folder / "crates", ignore=shutil.ignore_patterns("out"))
 
 
 def checked(folder):
     """(status, names of the errors, text) of a check of the client; '' for a nameless error."""
     done = subprocess.run(
-        ["rt", "dev", "client"],
-        cwd=folder,
+        ["rt", "check"],
+        cwd=folder / "crates" / "client",
         stdin=subprocess.DEVNULL,
         stdout=subprocess.PIPE,
         stderr=subprocess.STDOUT,

@@ -1,6 +1,6 @@
 """Runs plancheck on random procedure files, small and large, and measures it on heavy ones.
 
-    python3 tests/random_procedures.py [PROGRAM]     (default: target/bin/plancheck)
+    python3 tests/random_procedures.py [PROGRAM]     (default: crates/plancheck/out/plancheck)
 
 Each run must give exactly the text that tools/planfile.py gives, which in turn is tied to
 tools/brute_force.py on the small files. Prints a line for each group of files, and at the end

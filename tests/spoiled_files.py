@@ -1,6 +1,6 @@
 """Runs rowcheck on good, cut, changed and damaged procedure files.
 
-    python3 tests/spoiled_files.py [PROGRAM]     (default: target/bin/rowcheck)
+    python3 tests/spoiled_files.py [PROGRAM]     (default: crates/rowcheck/out/rowcheck)
 
 Each run must end with status 0 in well under a second, with exactly the line that the loader of
 tools/procfile.py gives. Prints a line for each group of files, and at the end 'N passed, M failed',
@@ -22,7 +22,7 @@ sys.path.insert(0, str(ROOT / "tools"))
 import procfile
 from procfile import doing, frame, header, partial, plan, reading, worlds, write
 
-PROGRAM = sys.argv[1] if len(sys.argv) > 1 else str(ROOT / "target" / "bin" / "rowcheck")
+PROGRAM = sys.argv[1] if len(sys.argv) > 1 else str(ROOT / "crates" / "rowcheck" / "out" / "rowcheck")
 TIME_LIMIT = 1.0  # seconds for one run
 SHOWN_FAILURES = 3  # of each group
 EXAMPLES = procfile.EXAMPLES

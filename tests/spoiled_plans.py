@@ -1,6 +1,6 @@
 """Runs plancheck on good, cut, changed and damaged procedure files.
 
-    python3 tests/spoiled_plans.py [PROGRAM]     (default: target/bin/plancheck)
+    python3 tests/spoiled_plans.py [PROGRAM]     (default: crates/plancheck/out/plancheck)
 
 Each run must end with status 0 in well under a second, with exactly the text that
 tools/planfile.py gives. Prints a line for each group of files, and at the end 'N passed, M failed',

@@ -4,7 +4,7 @@
     def tests(tally): ...
     sys.exit(harness.main(tests))
 
-A script takes the program's name (default: target/bin/plancheck). It prints a line for each group,
+A script takes the program's name (default: crates/plancheck/out/plancheck). It prints a line for each group,
 and at the end 'N passed, M failed', which counts the groups.
 """
 import subprocess
@@ -91,7 +91,7 @@ class Tally:
 
 def main(tests):
     """Runs the tests on the program that the command line names, and gives the status."""
-    program = sys.argv[1] if len(sys.argv) > 1 else str(ROOT / "target" / "bin" / "plancheck")
+    program = sys.argv[1] if len(sys.argv) > 1 else str(ROOT / "crates" / "plancheck" / "out" / "plancheck")
     if not Path(program).is_file():
         print(f"there is no program {program}\n0 passed, 1 failed")
         return 1
