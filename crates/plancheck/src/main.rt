@@ -6,6 +6,7 @@ ghost use Rattle.std.specs.Prelude.{◌≤◌, IfOk, vec_len};
 use std::alloc::Global;
 use std::io;
 use std::io::Read;
+use std::process::ExitCode;
 use verdicts::text::text;
 
 // The most bytes that a file is taken to have; what the input has after them is not read.
@@ -31,10 +32,12 @@ fn run(rt: &HostRuntime) -> io::Result<()> {
 }
 
 // An error of reading, memory or printing ends the program with status 1 and a message.
-fn main(rt: HostRuntime) -> io::Result<()> {
-    let result = run(&rt);
-    if let Err(e) = &result {
-        let _ = eprintln!(rt; "plancheck: {e}");
+fn main(rt: HostRuntime) -> ExitCode {
+    match run(&rt) {
+        Ok(()) => ExitCode::SUCCESS,
+        Err(e) => {
+            let _ = eprintln!(rt; "plancheck: {e}");
+            ExitCode::FAILURE
+        }
     }
-    result
 }

@@ -7,6 +7,7 @@ ghost use Rattle.std.specs.Prelude.{◌≤◌, IfOk, vec_len};
 use settlements::{Parsed, parse};
 use std::alloc::Global;
 use std::io::Read;
+use std::process::ExitCode;
 use std::{env, io};
 use visit::visit;
 
@@ -43,10 +44,12 @@ fn run(rt: &HostRuntime) -> io::Result<()> {
 }
 
 // An error of reading, memory or printing ends the program with status 1 and a message.
-fn main(rt: HostRuntime) -> io::Result<()> {
-    let result = run(&rt);
-    if let Err(e) = &result {
-        let _ = eprintln!(rt; "rehearsal: {e}");
+fn main(rt: HostRuntime) -> ExitCode {
+    match run(&rt) {
+        Ok(()) => ExitCode::SUCCESS,
+        Err(e) => {
+            let _ = eprintln!(rt; "rehearsal: {e}");
+            ExitCode::FAILURE
+        }
     }
-    result
 }

@@ -6,6 +6,7 @@ ghost use Rattle.std.specs.Prelude.{◌≤◌, IfOk, vec_len};
 use std::alloc::Global;
 use std::io;
 use std::io::Read;
+use std::process::ExitCode;
 
 // The most bytes that a file is taken to have; what the input has after them is not read.
 const FILE_LIMIT: usize = 65536;
@@ -29,10 +30,12 @@ fn run(rt: &HostRuntime) -> io::Result<()> {
 }
 
 // An error of reading, memory or printing ends the program with status 1 and a message.
-fn main(rt: HostRuntime) -> io::Result<()> {
-    let result = run(&rt);
-    if let Err(e) = &result {
-        let _ = eprintln!(rt; "rowcheck: {e}");
+fn main(rt: HostRuntime) -> ExitCode {
+    match run(&rt) {
+        Ok(()) => ExitCode::SUCCESS,
+        Err(e) => {
+            let _ = eprintln!(rt; "rowcheck: {e}");
+            ExitCode::FAILURE
+        }
     }
-    result
 }
