@@ -100,7 +100,7 @@ CASES = [
             (ARM, FORGED),
             (
                 "use panel::known::Known;\n",
-                "use kept::Kept;\nuse panel::known::Known;\nuse panel::known::KnownKnowledge;\n"
+                "use kept::Kept;\nuse panel::known::Known;\n"
                 "use permit::Permit;\nuse runs::run::Run;\n",
             ),
         ],
