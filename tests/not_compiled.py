@@ -168,7 +168,7 @@ def tests(tally):
 
 def main():
     began = time.monotonic()
-    tally = harness.Tally(None)
+    tally = harness.Tally()
     tests(tally)
     print(f"{time.monotonic() - began:.0f} s")
     print(f"{tally.passed} passed, {tally.failed} failed")

@@ -319,4 +319,4 @@ def tests(tally):
 
 
 if __name__ == "__main__":
-    sys.exit(harness.main(tests))
+    sys.exit(harness.main(tests, "plancheck", planfile.text))

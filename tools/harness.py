@@ -2,10 +2,11 @@
 
     import harness
     def tests(tally): ...
-    sys.exit(harness.main(tests))
+    sys.exit(harness.main(tests, NAME, text))
 
-A script takes the program's name (default: crates/plancheck/out/plancheck). It prints a line for each group,
-and at the end 'N passed, M failed', which counts the groups.
+The function `text` gives the text that is due for an input, but for its last line break. A script
+takes the program's path (default: crates/NAME/out/NAME). It prints a line for each group, and at
+the end 'N passed, M failed', which counts the groups.
 """
 import subprocess
 import sys
@@ -13,8 +14,6 @@ import tempfile
 import time
 from concurrent.futures import ThreadPoolExecutor
 from pathlib import Path
-
-import planfile
 
 ROOT = Path(__file__).resolve().parent.parent
 TIME_LIMIT = 1.0  # seconds for one run
@@ -53,8 +52,12 @@ def fault_of(program, data, expected, as_pipe=False):
 
 
 class Tally:
-    def __init__(self, program):
+    """Counts the groups. Only those that run the program need its path, and only `group` the
+    function that gives the text that is due for an input."""
+
+    def __init__(self, program=None, text=None):
         self.program = program
+        self.text = text
         self.passed = self.failed = 0
         self.pool = ThreadPoolExecutor(max_workers=4)
 
@@ -70,8 +73,8 @@ class Tally:
         self.faultless(f"{name}: {len(cases)} runs", faults, began)
 
     def group(self, name, inputs, as_pipe=False):
-        """A group of inputs; the text is that of tools/planfile.py. Gives inputs and texts."""
-        cases = [(data, planfile.text(data)) for data in inputs]
+        """A group of inputs; the text that is due is worked out. Gives pairs of input and text."""
+        cases = [(data, self.text(data)) for data in inputs]
         self.known(name, cases, as_pipe)
         return cases
 
@@ -89,14 +92,15 @@ class Tally:
         print(f"{name}: {'ok' if ok else 'FAILED'}", flush=True)
 
 
-def main(tests):
-    """Runs the tests on the program that the command line names, and gives the status."""
-    program = sys.argv[1] if len(sys.argv) > 1 else str(ROOT / "crates" / "plancheck" / "out" / "plancheck")
+def main(tests, name, text):
+    """Runs the tests on the program of this name, or at the path on the command line. Gives the
+    status."""
+    program = sys.argv[1] if len(sys.argv) > 1 else str(ROOT / "crates" / name / "out" / name)
     if not Path(program).is_file():
         print(f"there is no program {program}\n0 passed, 1 failed")
         return 1
     began = time.monotonic()
-    tally = Tally(program)
+    tally = Tally(program, text)
     tests(tally)
     print(f"{time.monotonic() - began:.0f} s")
     print(f"{tally.passed} passed, {tally.failed} failed")
