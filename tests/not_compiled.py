@@ -55,7 +55,7 @@ CASES = [
     (
         "a reading is let go unsettled",
         "linear-value-let-go",
-        [("                let Over { loaded: _, word: _ } = reading.withdraw();\n", "")],
+        [("                let _back = *word_of(reading.withdraw());\n", "")],
     ),
     (
         "a run is confirmed twice",
@@ -88,7 +88,7 @@ CASES = [
         "private-field",
         [
             (
-                "let Over { loaded: _, word: _ } = armed.give_up();",
+                "let _back = *word_of(armed.give_up());",
                 "let Armed { loaded: _, run: _, permit: _ } = armed;",
             )
         ],

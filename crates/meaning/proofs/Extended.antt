@@ -99,17 +99,6 @@ pub has_value : (f : ℕ) (b : Bool) (s : Row) → has f b s ≡ true → (w : �
 has_value f true s e w h = within_members s.trues w h.1 f e
 has_value f false s e w h = apart_members s.falses w h.2 f e
 
--- so a known value leaves all worlds, and the other one leaves none
-pub has_told : (f : ℕ) (b : Bool) (s : Row) → has f b s ≡ true → Same (Extending s) (Told f b (Extending s))
-has_told f b s e w = ((λ h. (h, has_value f b s e w h)), (λ h. h.0))
-
-pub has_refuses : (f : ℕ) (b : Bool) (s : Row) → has f b s ≡ true → Possible (Told f (not b) (Extending s)) → ⊥
-has_refuses f b s e p = differs b (sym (has_value f b s e p.0 p.1.0) ∙ p.1.1)
-  where
-    differs : (b : Bool) → b ≡ not b → ⊥
-    differs true q = both_ways true q refl
-    differs false q = both_ways false refl q
-
 -- ---- what covers a state
 
 -- every literal of r is one of s

@@ -100,9 +100,3 @@ module _ (goal : Row) where
       let fit-t = list_fits ts (rows_list t ts state proper.2 rows-t) in
       let fit-e = list_fits es (rows_list e es state proper.3 rows-e) in
       least_list c (asked f ts es) rs proper.0 (asked_fit f ts es proper.1 fit-t fit-e) is
-
-  pub few_rows : (t : Steps) (rs : List Row) → rows_of goal t ≡ Ok rs → length rs ≤ 16
-  few_rows (ends at) rs e = subst (λ l. length l ≤ 16) (sym (ends_rows goal at rs e)) (omega arith)
-  few_rows (gaps at) rs e = subst (λ l. length l ≤ 16) (sym (gaps_rows goal at rs e)) (omega arith)
-  few_rows (does at c add del t) rs e = (does_rows goal at c add del t rs e).3
-  few_rows (reads at c f t e) rs q = (reads_rows goal at c f t e rs q).5

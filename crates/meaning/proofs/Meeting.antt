@@ -144,10 +144,6 @@ pub less_meets : (f : ℕ) (b : Bool) (x : Row) (w : ℕ) → Meets (less f b x)
 less_meets f true x w m told i = ((λ e. ⊎_elim (at_only f true w i told) (m i).0 (less_cases x.trues f i e)), (m i).1)
 less_meets f false x w m told i = ((m i).0, (λ e. ⊎_elim (at_only f false w i told) (m i).1 (less_cases x.falses f i e)))
 
-pub meets_less : (f : ℕ) (b : Bool) (x : Row) (w : ℕ) → Meets x w → Meets (less f b x) w
-meets_less f true x w m i = ((λ e. (m i).0 (minus_parts x.trues (only f) i e).0), (m i).1)
-meets_less f false x w m i = ((m i).0, (λ e. (m i).1 (minus_parts x.falses (only f) i e).0))
-
 pub meets_allows : (f : ℕ) (b : Bool) (x : Row) (w : ℕ) → Meets x w → bit w f ≡ b → allows f b x ≡ true
 meets_allows f true x w m told = not_from_false (bit x.falses f) (refuted (bit x.falses f) (λ e. both_ways (bit w f) ((m f).1 e) told))
 meets_allows f false x w m told = not_from_false (bit x.trues f) (refuted (bit x.trues f) (λ e. both_ways (bit w f) told ((m f).0 e)))

@@ -18,9 +18,6 @@ Ahead s i q rest j due = (qs : List Plan) × (length qs ≡ due) × (drop j s �
 pub first_is : (s : List ℕ) (j b : ℕ) (bs : List ℕ) → j < length s → drop j s ≡ b ∷ bs → get_or s j 0 ≡ b
 first_is s j b bs h e = let m = drop_more s j 0 h in cc
 
-pub behind_two : (s : List ℕ) (j b a : ℕ) (x y z : List ℕ) → drop j s ≡ b ∷ a ∷ ((x ++ y) ++ z) → drop (j + 2) s ≡ (x ++ y) ++ z
-behind_two s j b a x y z e = rest_two s j b a _ e
-
 module _ (s : List ℕ) (i : ℕ) (q : Plan) (rest : List ℕ) (j due : ℕ) where
   pub ahead_first : drop i s ≡ encode q ++ rest → Ahead s i q rest i 1
   ahead_first e = (q ∷ [], refl, e ∙ ap (λ (l : List ℕ). l ++ rest) (sym (mathlib.Core.List.append-nil (encode q))), omega (arith, length-append (encode q) []))

@@ -40,9 +40,6 @@ either_both f g (inr h) k = g h.1 (either_else h.0 k)
 pub same_sym : (K L : ℕ → Type 0) → Same K L → Same L K
 same_sym K L same w = ((same w).1, (same w).0)
 
-pub same_trans : (K L M : ℕ → Type 0) → Same K L → Same L M → Same K M
-same_trans K L M first second w = ((λ k. (second w).0 ((first w).0 k)), (λ m. (first w).1 ((second w).1 m)))
-
 pub covers_same : (r : Row) (K L : ℕ → Type 0) → Same K L → Covers r K → Covers r L
 covers_same r K L same covers w l = covers w ((same w).1 l)
 
