@@ -1,10 +1,89 @@
 """Cut, changed, long, random and damaged procedure files, for the scripts of tests/ that run a
 program on them. What is random is drawn from the generator that is given."""
 import procfile
-from procfile import EXAMPLES, doing, frame, header, partial, plan, reading, worlds, write
+from procfile import ACTIONS, EXAMPLES, doing, frame, header, partial, plan, reading, worlds, write
 
 # The smallest file that loads: no action, and a plan that is one end.
 SMALLEST = [header(1), plan("00"), partial()]
+
+# ---- small files
+
+ONE = header(1)
+MANY = [ONE, *[doing()] * 64]
+EIGHT = "0200" * 7 + "00" * 8  # the rest of a path with eight readings, behind its first
+TOP = 2**64 - 1
+
+# Files that load, at the limits: by what is special about them.
+SMALL_LOADED = {
+    "nothing": write(SMALLEST),
+    "most actions": write([*MANY, plan("0100" * 511 + "00"), worlds(*[1] * 64)]),
+    "most fluents": write([header(64, [63], [62]), reading(63), plan("03"), worlds(TOP)]),
+    "a sum that passes 65,536": write([header(64), plan("00"), worlds(*[TOP] * 64)]),
+    "eight readings on each of two paths": write(
+        [ONE, reading(0), plan("0200" + EIGHT + EIGHT), partial()]
+    ),
+}
+
+
+def small_refusals():
+    """A small input for each of the first eight refusals, and some more at the edges."""
+    yield b"", "refused 1 0"
+    yield bytes.fromhex("000004000500"), "refused 2 0"
+    yield bytes.fromhex("030009000102031200"), "refused 3 0"
+    yield bytes.fromhex("000001000100"), "refused 4 0"
+    yield write([header(0), plan("00"), partial()]), "refused 5 0"
+    yield write([ONE, plan("0000"), partial()]), "refused 6 28"
+    yield write([header(3), *ACTIONS, plan("0204" * 9 + "00" * 10), partial()]), "refused 7 203"
+    yield write([*MANY, doing()]), "refused 8 2455"
+    yield write([*MANY, plan("0100" * 511 + "0000"), partial()]), "refused 6 3482"
+    yield write([ONE, plan("ff" * 1024), partial()]), "refused 6 27"
+    # frames that are missing, not due or of an unfit length
+    yield write([ONE]), "refused 1 23"
+    yield write([ONE, plan("00")]), "refused 1 30"
+    yield write([ONE, ONE]), "refused 3 23"
+    yield write([plan("00")]), "refused 3 0"
+    yield write([ONE, partial()]), "refused 3 23"
+    yield write([ONE, plan("00"), doing()]), "refused 3 30"
+    yield write([ONE, plan("00"), plan("00")]), "refused 3 30"
+    yield write(SMALLEST) + b"\0", "refused 3 52"
+    yield write([*SMALLEST, partial()]), "refused 3 52"
+    yield write([*MANY, (procfile.READING, b"")]), "refused 8 2455"
+    yield write([*MANY, header(1)]), "refused 3 2455"
+    yield write([*MANY, plan("00"), doing()]), "refused 3 2462"
+    yield write([ONE, plan("")]), "refused 4 23"
+    yield write([ONE, plan("00" * 1025)]), "refused 4 23"
+    yield write([ONE, plan("00"), worlds()]), "refused 4 30"
+    yield write([ONE, plan("00"), worlds(*[0] * 65)]), "refused 4 30"
+    yield write([ONE, plan("00"), (procfile.START_WORLDS, bytes(9))]), "refused 4 30"
+    # fields
+    yield write([header(65), plan("00"), partial()]), "refused 5 0"
+    yield write([header(1, [1]), plan("00"), partial()]), "refused 5 0"
+    yield write([header(1, [0], [0]), plan("00"), partial()]), "refused 5 0"
+    yield write([ONE, doing(add=[0], delete=[0]), plan("00"), partial()]), "refused 5 23"
+    yield write([ONE, doing(delete=[1]), plan("00"), partial()]), "refused 5 23"
+    yield write([ONE, doing([0], [0]), plan("00"), partial()]), "refused 5 23"
+    yield write([ONE, reading(1), plan("00"), partial()]), "refused 5 23"
+    yield write([ONE, reading(0, [1]), plan("00"), partial()]), "refused 5 23"
+    yield write([ONE, plan("00"), partial([0], [0])]), "refused 5 30"
+    yield write([ONE, plan("00"), worlds(0, 1, 2)]), "refused 5 30"
+    # a plan is tested before the start that follows it, and a frame before any field
+    yield write([ONE, plan("04"), partial([1])]), "refused 6 27"
+    yield write([header(0), plan("04")]), "refused 1 30"
+    yield write([header(0), plan("04"), partial()]), "refused 5 0"
+    # plans
+    yield write([ONE, doing(), plan("01"), partial()]), "refused 6 66"
+    yield write([ONE, doing(), plan("0100"), partial()]), "refused 6 67"
+    yield write([ONE, doing(), plan("0101"), partial()]), "refused 6 65"
+    yield write([ONE, doing(), plan("0200"), partial()]), "refused 6 65"
+    yield write([ONE, reading(0), plan("0100"), partial()]), "refused 6 50"
+    yield write([ONE, reading(0), plan("020000"), partial()]), "refused 6 53"
+    # at a ninth reading an absent action or an early end comes first
+    yield write([ONE, reading(0), plan("0200" * 8 + "0201"), partial()]), "refused 6 66"
+    yield write([ONE, reading(0), plan("0200" * 8 + "02"), partial()]), "refused 6 67"
+    yield write([ONE, reading(0), plan("0200" * 8 + "0200"), partial()]), "refused 7 66"
+
+
+# ---- spoiled files
 
 
 def cut(data):
@@ -121,3 +200,31 @@ def damaged(rng, frames):
     if rng.random() < 0.05:
         data += rng.randbytes(rng.randint(1, 9))
     return data
+
+
+# ---- the groups
+
+
+def spoiled_groups(tally, rng):
+    """Runs a program on the examples, and on spoiled files; gives the random ones with their texts."""
+    tally.group("examples", EXAMPLES.values())
+    tally.group("examples, cut at every length", (d for e in EXAMPLES.values() for d in cut(e)))
+    tally.group(
+        "smallest file, each byte changed to each value",
+        one_byte_changed(write(SMALLEST), lambda _: range(256)),
+    )
+    tally.group(
+        "examples, each byte changed to some values",
+        (d for e in EXAMPLES.values() for d in one_byte_changed(e, some_values)),
+    )
+    tally.group(
+        "two branches, each byte changed to some values and summed anew",
+        one_byte_changed_and_summed([*procfile.TWO_BRANCHES, worlds(0, 5)], some_values),
+    )
+    tally.group("long files", long_files(rng))
+    tally.group("long files through a pipe", long_files(rng), as_pipe=True)
+    tally.group("noise", (rng.randbytes(rng.randint(0, 60)) for _ in range(500)))
+    return tally.group(
+        "random files with right sums, damaged",
+        (damaged(rng, random_frames(rng)) for _ in range(5000)),
+    )
