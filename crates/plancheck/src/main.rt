@@ -1,8 +1,9 @@
 // Reads a procedure file from standard input, and prints the verdict at its start and its rows, or a refusal.
 #![tactic(auto)]
 
-ghost use Rattle.std.specs.Prelude.{◌≤◌, IfOk, vec_len};
+ghost use Rattle.std.specs.Prelude.{◌≡◌, ◌≤◌, IfOk, IfSome, take, vec_len};
 
+use intake::first_bytes;
 use std::alloc::Global;
 use std::io;
 use std::io::Read;
@@ -14,13 +15,10 @@ const FILE_LIMIT: usize = 65536;
 
 // The whole input, or its first bytes up to the limit.
 fn read_file<R: Read + Drop>(heap: Global, input: R) -> io::Result<Vec<u8>>
-    ensures { IfOk result (λ file. vec_len file ≤ 65536) }
+    ensures limit { IfOk result (λ file. vec_len file ≤ 65536) }
+    ensures bytes { IfOk result (λ file. IfSome (R.remaining input) (λ xs. file.items ≡ take 65536 xs)) }
 {
-    let mut file = Vec::new(heap);
-    input.take(FILE_LIMIT as u64).read_to_end(&mut file)?;
-    // `take` stops there too, but no contract of it says so
-    file.truncate(FILE_LIMIT);
-    Ok(file)
+    first_bytes(heap, input, FILE_LIMIT)
 }
 
 // Reads the file, and prints the text of the report on it.
