@@ -36,11 +36,11 @@ ARM = """\
 FORGED = """\
     let run = Run::begin(&loaded, start);
     let permit = Permit::raise(word);
-    let armed = Armed {
+    let permitted = Permitted {
         loaded: Kept::put(loaded),
-        run,
         permit,
     };
+    let armed = Armed { permitted, run };
     end(armed.confirm())
 """
 
@@ -55,18 +55,27 @@ CASES = [
     (
         "a reading is let go unsettled",
         "linear-value-let-go",
-        [("                let _back = *word_of(reading.withdraw());\n", "")],
+        [
+            (
+                "Ok(armed) => number_here(armed),",
+                "Ok(armed) => match armed.confirm() {\n"
+                "            Confirmed::Did { number, armed } => (Some(number), armed.give_up()),\n"
+                "            Confirmed::Reads(reading) => return Some(reading.number()),\n"
+                "            Confirmed::Ended(over) => (None, over),\n"
+                "        },",
+            )
+        ],
     ),
     (
         "a run is confirmed twice",
         "borrow-e0382",
         [
             (
-                "Ok(armed) => end(armed.confirm()),",
+                "Ok(armed) => end(armed.confirm()),\n        Err(unarmed)",
                 "Ok(armed) => {\n"
                 "            let Over { loaded: _, word: _ } = end(armed.confirm());\n"
                 "            end(armed.confirm())\n"
-                "        }",
+                "        }\n        Err(unarmed)",
             )
         ],
     ),
@@ -88,8 +97,11 @@ CASES = [
         "private-field",
         [
             (
-                "let _back = *word_of(armed.give_up());",
-                "let Armed { loaded: _, run: _, permit: _ } = armed;",
+                "Ok(armed) => number_here(armed),",
+                "Ok(armed) => {\n"
+                "            let Armed { permitted: _, run: _ } = armed;\n"
+                "            return None;\n"
+                "        }",
             )
         ],
     ),
@@ -100,7 +112,7 @@ CASES = [
             (ARM, FORGED),
             (
                 "use panel::known::Known;\n",
-                "use kept::Kept;\nuse panel::known::Known;\n"
+                "use kept::Kept;\nuse panel::known::Known;\nuse panel::permitted::Permitted;\n"
                 "use permit::Permit;\nuse runs::run::Run;\n",
             ),
         ],

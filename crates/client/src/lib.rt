@@ -1,22 +1,23 @@
 // A client of the panel: it goes through the public calls of a run alone, and ends each run that it begins.
 #![tactic(auto)]
 
-ghost use Rattle.std.specs.Prelude.{◌≡◌, ℕ, Ok};
-ghost use Rattle.plans.specs.Trees.{Plan, ask, NodeAt};
-ghost use Rattle.procedure.specs.Procedures.{Procedure, procedure_of};
-ghost use Rattle.panel.specs.Confirming.{GivenBack};
-ghost use Rattle.client.specs.Backs.{Ends, AsBefore, FirstAction};
+ghost use Rattle.std.specs.Prelude.{◌≡◌, Ok};
+ghost use Rattle.panel.specs.Arming.{AsBefore};
+ghost use Rattle.panel.specs.Confirming.{GivenBack, Keeps};
+ghost use Rattle.panel.specs.declared.permitted.Permitted.{Permitted};
+ghost use Rattle.client.specs.First.{first_number, FirstAction};
+ghost use Rattle.procedure.specs.Asked.{IfLoads, IfNode};
 
-use panel::answers::{Confirmed, Denied, Over, Settled};
+use panel::answers::{Confirmed, Over};
 use panel::armed::Armed;
 use panel::armed::keys::Unarmed;
 use panel::known::Known;
 use panel::reading::Reading;
 use procedure::loaded::Loaded;
 
-// Ends a run after Confirm: one that goes on is given up, and a reading that waits is withdrawn.
+// Ends a run after Confirm: one that goes on is given up, and a reading that waits is withdrawn. What the run had is given back.
 fn end<'f, 'w>(confirmed: Confirmed<'f, 'w>) -> Over<'f, 'w>
-    ensures { Ends confirmed.entry result }
+    ensures { (h : Permitted) → Keeps h confirmed.entry → GivenBack h result }
 {
     match confirmed {
         Confirmed::Did { number: _, armed } => armed.give_up(),
@@ -27,32 +28,18 @@ fn end<'f, 'w>(confirmed: Confirmed<'f, 'w>) -> Over<'f, 'w>
 
 // What a refused Arm gives back.
 fn given_back<'f, 'w>(unarmed: Unarmed<'f, 'w>) -> Over<'f, 'w>
-    ensures { (result.loaded.value ≡ unarmed.entry.loaded.value) × (result.word.ghost_name ≡ unarmed.entry.word.ghost_name) × (result.word.now ≡ unarmed.entry.word.now) }
+    ensures { result ≡ unarmed.entry.over }
 {
-    let Unarmed {
-        loaded,
-        start: _,
-        word,
-        fault: _,
-        cause: _,
-    } = unarmed;
-    Over { loaded, word }
+    unarmed.over
 }
 
 // Settles a reading with true and, unless no world has that value, confirms once more; the run is ended.
 fn settle<'f, 'w>(reading: Reading<'f, 'w>) -> Over<'f, 'w>
-    ensures { (p : Procedure) → procedure_of reading.entry.loaded.value.file.now ≡ Ok p → (a : ℕ) (t e : Plan) → NodeAt p.place p.plan reading.entry.pending.place (ask a t e) → GivenBack reading.entry.loaded reading.entry.permit result }
+    ensures { GivenBack reading.entry.permitted result }
 {
     match reading.settle(true) {
-        Settled::Goes(armed) => end(armed.confirm()),
-        Settled::Refused(denied) => {
-            let Denied {
-                loaded,
-                word,
-                fault: _,
-            } = denied;
-            Over { loaded, word }
-        }
+        Ok(armed) => end(armed.confirm()),
+        Err(denied) => denied.over,
     }
 }
 
@@ -77,8 +64,7 @@ pub fn settle_and_confirm<'f, 'w>(
     match Armed::arm(loaded, start, word) {
         Ok(armed) => match armed.confirm() {
             Confirmed::Reads(reading) => settle(reading),
-            Confirmed::Did { number: _, armed } => armed.give_up(),
-            Confirmed::Ended(over) => over,
+            confirmed => end(confirmed),
         },
         Err(unarmed) => given_back(unarmed),
     }
@@ -92,31 +78,28 @@ fn word_of<'w>(over: Over<'_, 'w>) -> &'w mut u32
     word
 }
 
+// The number of the action at the node of the run, where it has one; the run is ended.
+fn number_here<'f, 'w>(armed: Armed<'f, 'w>) -> (Option<u8>, Over<'f, 'w>)
+    ensures number { IfLoads armed.entry.permitted.loaded.value (λ p. IfNode p armed.entry.run.place (λ q. result.0 ≡ first_number q)) }
+    ensures back { GivenBack armed.entry.permitted result.1 }
+{
+    match armed.confirm() {
+        Confirmed::Did { number, armed } => (Some(number), armed.give_up()),
+        Confirmed::Reads(reading) => (Some(reading.number()), reading.withdraw()),
+        Confirmed::Ended(over) => (None, over),
+    }
+}
+
 // The number of the action at the first node, where the plan holds and has one; the procedure is let go. The word is read
 // where it comes back, so that the contract can say what it is then.
 pub fn first_action(loaded: Loaded, start: Known, word: &mut u32) -> Option<u8>
-    ensures first { (p : Procedure) → procedure_of loaded.entry.file.now ≡ Ok p → FirstAction p start result }
+    ensures first { IfLoads loaded.entry (λ p. FirstAction p start result) }
     ensures word { word.new ≡ word.old }
 {
-    match Armed::arm(loaded, start, word) {
-        Ok(armed) => match armed.confirm() {
-            Confirmed::Did { number, armed } => {
-                let _back = *word_of(armed.give_up());
-                Some(number)
-            }
-            Confirmed::Reads(reading) => {
-                let number = reading.number();
-                let _back = *word_of(reading.withdraw());
-                Some(number)
-            }
-            Confirmed::Ended(over) => {
-                let _back = *word_of(over);
-                None
-            }
-        },
-        Err(unarmed) => {
-            let _back = *word_of(given_back(unarmed));
-            None
-        }
-    }
+    let (number, over) = match Armed::arm(loaded, start, word) {
+        Ok(armed) => number_here(armed),
+        Err(unarmed) => (None, given_back(unarmed)),
+    };
+    let _back = *word_of(over);
+    number
 }

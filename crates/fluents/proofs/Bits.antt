@@ -48,9 +48,6 @@ bit-or a b i =
     ap (λ (n : ℕ). eqb (n % 2) 1) (or_shr a b i) ∙ ap (λ (n : ℕ). eqb n 1) (or_mod (a / 2 ^ i) (b / 2 ^ i) 1)
     ∙ ways bit_or ◌||◌ refl refl refl refl (digit a i) (digit b i) (digit_ways a i) (digit_ways b i)
 
-but_not : Bool → Bool → Bool
-but_not a b = a && not b
-
 exclusive : Bool → Bool → Bool
 exclusive true b = not b
 exclusive false b = b

@@ -1,5 +1,5 @@
 -- The number and the layer of each refusal. Assumes nothing.
-use Rattle.std.specs.Prelude.{ℕ}
+use Rattle.std.specs.Prelude.{ℕ, List, ◌++◌, codes, decimal}
 use Rattle.fluents.specs.declared.faults.Refusal.{Refusal}
 use Rattle.fluents.specs.declared.faults.Refusal.TheVariants.{Incomplete, WrongSum, UnexpectedKind, UnfitLength, BadField, BadPlan, TooManyReadings, TooManyActions, TooManyRows, Contradiction, VerdictFails}
 use Rattle.fluents.specs.declared.faults.Fault.{Fault}
@@ -37,3 +37,7 @@ layer_of VerdictFails = Run
 -- the fault that names a refusal and a place
 abbrev pub fault_at : Refusal → ℕ → Fault
 fault_at why place = record { refusal = why; place = place }
+
+-- `refused NUMBER PLACE`, in decimal
+abbrev pub fault_text : Fault → List ℕ
+fault_text fault = codes "refused " ++ (decimal (number_of fault.refusal) ++ (codes " " ++ decimal fault.place))

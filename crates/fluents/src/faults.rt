@@ -1,32 +1,34 @@
 // The numbered refusals, and the fault that a refused call answers.
-ghost use Rattle.std.specs.Prelude.{◌≡◌};
-ghost use Rattle.fluents.specs.Refusals.{number_of, layer_of};
+ghost use Rattle.std.specs.Prelude.{◌≡◌, Some};
+ghost use Rattle.fluents.specs.Refusals.{number_of, layer_of, fault_at, fault_text};
+
+use std::fmt;
 
 // Why a call was refused; there is one name for each number.
 #[derive(Clone, Copy, PartialEq, Eq, Debug)]
 pub enum Refusal {
     // the file ends before a whole frame, or before the start frame
-    Incomplete,
+    Incomplete = 1,
     // the sum at the end of a frame is not that of its bytes
-    WrongSum,
+    WrongSum = 2,
     // the kind of a frame is unknown or not due, or a byte follows the start frame
-    UnexpectedKind,
+    UnexpectedKind = 3,
     // the length of a frame does not fit its kind, or a list has too few or too many worlds
-    UnfitLength,
+    UnfitLength = 4,
     // a field holds what it must not: sets that meet, a bit or a fluent out of range
-    BadField,
+    BadField = 5,
     // the plan has a bad byte or action, ends early, or leaves bytes over
-    BadPlan,
+    BadPlan = 6,
     // a ninth reading on one path of the plan
-    TooManyReadings,
+    TooManyReadings = 7,
     // a 65th action
-    TooManyActions,
+    TooManyActions = 8,
     // over 16 rows at a node of the plan
-    TooManyRows,
+    TooManyRows = 9,
     // a value that no world has
-    Contradiction,
+    Contradiction = 10,
     // the plan does not reach its goal from the start
-    VerdictFails,
+    VerdictFails = 11,
 }
 
 // What a refusal is about.
@@ -44,19 +46,7 @@ impl Refusal {
     pub fn number(self) -> u8
         ensures { result ≡ number_of self }
     {
-        match self {
-            Refusal::Incomplete => 1,
-            Refusal::WrongSum => 2,
-            Refusal::UnexpectedKind => 3,
-            Refusal::UnfitLength => 4,
-            Refusal::BadField => 5,
-            Refusal::BadPlan => 6,
-            Refusal::TooManyReadings => 7,
-            Refusal::TooManyActions => 8,
-            Refusal::TooManyRows => 9,
-            Refusal::Contradiction => 10,
-            Refusal::VerdictFails => 11,
-        }
+        self as u8
     }
 
     // The layer that this refusal belongs to.
@@ -73,6 +63,16 @@ impl Refusal {
             Refusal::BadPlan | Refusal::TooManyReadings => Layer::Plan,
             Refusal::TooManyRows => Layer::Rows,
             Refusal::Contradiction | Refusal::VerdictFails => Layer::Run,
+        }
+    }
+
+    // The fault that names this refusal and a place.
+    pub fn at(self, place: usize) -> Fault
+        ensures { result ≡ fault_at self place }
+    {
+        Fault {
+            refusal: self,
+            place,
         }
     }
 }
@@ -95,5 +95,23 @@ impl Fault {
         ensures { result ≡ layer_of self.refusal }
     {
         self.refusal.layer()
+    }
+}
+
+// A call that has no file is refused at place 0.
+impl From<Refusal> for Fault {
+    ghost from_gives = { λ refusal fault. fault ≡ fault_at refusal 0 };
+
+    fn from(refusal: Refusal) -> Fault {
+        refusal.at(0)
+    }
+}
+
+// `refused` with the number and the place.
+impl fmt::Display for Fault {
+    ghost output = { λ fault. Some (fault_text fault) };
+
+    fn fmt<W: fmt::Write>(&self, f: &mut fmt::Formatter<W>) -> fmt::Result {
+        write!(f, "refused {} {}", self.number(), self.place)
     }
 }

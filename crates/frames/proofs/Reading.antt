@@ -1,5 +1,5 @@
 -- What a frame without a flaw is, and how the frames of a file follow one another. Assumes nothing.
-use Rattle.std.proofs.Common.{◌≡◌, ℕ, zero, suc, ◌+◌, ◌-◌, ◌^◌, ◌<◌, ◌≤◌, min, Bool, true, false, cond, ◌&&◌, eqb, ltb, leb, List, [], length, drop, Some, None, Ok, Err, Option, Result, sym, refl, ap, ◌∙◌, subst, arith, length-drop, length-take, le-ltb, lt-ltb, eq-eqb, eqb-true, leb-true}
+use Rattle.std.proofs.Common.{◌≡◌, ℕ, zero, suc, ◌+◌, ◌-◌, ◌^◌, ◌<◌, ◌≤◌, min, Bool, true, false, cond, ◌&&◌, eqb, ltb, leb, List, [], length, drop, Some, None, Ok, Err, Option, Result, sym, refl, ap, ◌∙◌, subst, add-zero, arith, length-drop, length-take, le-ltb, lt-ltb, eq-eqb, eqb-true, leb-true}
 use Rattle.fluents.specs.Refusals.{fault_at}
 use Rattle.fluents.specs.declared.faults.Fault.{Fault}
 use Rattle.fluents.specs.declared.faults.Refusal.{Refusal}
@@ -179,6 +179,22 @@ pub start_last : (s : List ℕ) (plan : Frame) (p : ℕ) → flaw_at s p Start �
 start_last s plan p e h =
     start_on s plan p e
     ∙ ap (λ b. cond b (Err (fault_at UnexpectedKind (after_at s p))) (Ok (record { actions = []; plan = plan; start = frame_at s p }))) (le-ltb (after_at s p) (length s) h)
+
+-- a file that was read to its end: where its frames lie
+pub outline_read : (s : List ℕ) (held last : Held) (first past actions plan start : ℕ)
+    → flaw_at s 0 Header ≡ None → Shows held (frame_at s 0)
+    → first ≡ min ((payload_of held).place + length (payload_of held).bytes.now + 2) (2 ^ 64 - 1)
+    → outline_from 0 (rest_from 64 s first) ≡ outline_from actions (start_from s (frame_at s plan) start)
+    → flaw_at s start Start ≡ None → Shows last (frame_at s start)
+    → past ≡ min ((payload_of last).place + length (payload_of last).bytes.now + 2) (2 ^ 64 - 1)
+    → length s ≤ past → length s < 2 ^ 64 → outline_of (frames_of s) ≡ Ok (outline actions plan start)
+outline_read s held last first past actions plan start flawless_header header end body flawless_start shown behind done small =
+    let ended : first ≡ after_at s 0 = end_at s 0 Header held flawless_header header small end in
+    let last_end : past ≡ after_at s start = end_at s start Start last flawless_start shown small behind in
+    let all : length s ≤ after_at s start = omega (arith, last_end, done) in
+    frames_outline s first (Ok (outline actions plan start)) flawless_header ended
+    (body ∙ ap (outline_from actions) (start_last s (frame_at s plan) start flawless_start all)
+    ∙ ap (λ (n : ℕ). Ok (outline n plan start)) (add-zero actions))
 
 -- ---- the numbers that a selected file keeps
 

@@ -2,7 +2,7 @@
 use Rattle.std.proofs.Common.{◌≡◌, ℕ, zero, suc, ◌+◌, ◌-◌, ◌*◌, ◌/◌, ◌%◌, ◌<◌, ◌≤◌, Bool, true, false, ◌||◌, eqb, leb, ◌⊎◌, List, [], ◌∷◌, ◌++◌, length, get_or, take, drop, is_ok, None, Ok, Err, sum, Result, sym, refl, ap, ◌∙◌, inl, inr, append_assoc, arith, length-drop, eq-eqb, eqb-true, le-leb}
 use borrow.Author.Tests.{lt-leb, both_ways}
 use Rattle.std.specs.List.{flat_map, AllByRecursion}
-use Rattle.std.proofs.lemmas.List.{get_or-drop, drop-drop, drop_more, drop_all, take-append-drop, take_at, drop_at}
+use Rattle.std.proofs.lemmas.List.{drop-drop, drop_more, drop_all, take-append-drop, take_at, drop_at}
 use Rattle.std.proofs.lemmas.Bool.{true≢false, and_left, and_right, or_left, or_cases}
 use Rattle.std.proofs.lemmas.Bool.Decides.{nat_tests}
 use Rattle.fluents.specs.declared.faults.Fault.{Fault}
@@ -13,6 +13,7 @@ use Rattle.frames.specs.Strings.{Content, body_of, bytes_of, Fit, Composed}
 use Rattle.frames.specs.declared.frame.Due.{Due}
 use Rattle.frames.specs.declared.frame.Due.TheVariants.{Header, Body, Start}
 use Rattle.frames.proofs.Passed.{PlanIs, ActionIs, plan_passed, rest_passed, frames_passed}
+use Rattle.frames.proofs.Parts.{little_at}
 use Rattle.frames.proofs.Reading.{flawless, flawless_none, whole_le, payload_length, ok_err, rest_plan, rest_action, frames_rest, start_last}
 
 -- ---- one frame
@@ -92,14 +93,6 @@ frame_bytes s p due small e =
     ∙ ap (λ (xs : List ℕ). xs ++ drop (after_at s p) s) (sym mine)
 
 -- ---- the bytes of a frame, read again
-
-little_at : (s t : List ℕ) (p q j : ℕ) → drop p s ≡ t → q ≡ p + j → little 2 s q ≡ little 2 t j
-little_at s t p q j e at =
-    let read : (k : ℕ) → get_or s (p + k) 0 ≡ get_or t k 0 = λ k. sym (get_or-drop p s k 0) ∙ ap (λ (xs : List ℕ). get_or xs k 0) e in
-    let low : get_or s q 0 ≡ get_or t j 0 = ap (λ (k : ℕ). get_or s k 0) at ∙ read j in
-    let next : q + 1 ≡ p + (j + 1) = omega arith in
-    let high : get_or s (q + 1) 0 ≡ get_or t (j + 1) 0 = ap (λ (k : ℕ). get_or s k 0) next ∙ read (j + 1) in
-    omega (arith, low, high)
 
 -- from place p on the file has the bytes of a frame, and then the rest
 module _ (s : List ℕ) (p : ℕ) (c : Content) (rest : List ℕ) (is : drop p s ≡ bytes_of c ++ rest) (fit : Fit c) where

@@ -31,9 +31,17 @@ frame_at s p = record { place = p; kind = kind_at s p; payload = take (length_at
 abbrev pub is_whole : List ℕ → ℕ → Bool
 is_whole s p = nat_le (after_at s p) (length s)
 
+-- all bytes of the frame before its last two
+abbrev pub body_at : List ℕ → ℕ → List ℕ
+body_at s p = take (length_at s p + 4) (drop p s)
+
+-- the number in the last two bytes of the frame
+abbrev pub sum_at : List ℕ → ℕ → ℕ
+sum_at s p = little 2 s (p + length_at s p + 4)
+
 -- the last two bytes of the frame are the sum of all its bytes before them, modulo 65,536
 abbrev pub sum_holds : List ℕ → ℕ → Bool
-sum_holds s p = sum (take (length_at s p + 4) (drop p s)) % 65536 == little 2 s (p + length_at s p + 4)
+sum_holds s p = sum (body_at s p) % 65536 == sum_at s p
 
 -- the kinds: 1 header, 2 doing action, 3 reading action, 4 plan, 5 start as a partial state, 6 start as worlds
 abbrev pub is_action : ℕ → Bool

@@ -1,8 +1,7 @@
 // One frame: its parts, and how it is read at a place of the file.
-ghost use Rattle.std.specs.Prelude.{◌≡◌, ◌+◌, ◌-◌, ◌%◌, ◌^◌, ◌≤◌, min, true, false, length, Some, None, Err, sum, MatchOption, MatchResult};
-ghost use Rattle.frames.specs.Bytes.{little};
-ghost use Rattle.frames.specs.Frames.{is_whole, length_at, sum_holds, is_due, is_excess, is_fit, is_action, flaw_at, frame_at};
-ghost use Rattle.frames.specs.Seen.{Shows, kind_of, payload_of};
+ghost use Rattle.std.specs.Prelude.{◌≡◌, ◌+◌, ◌-◌, ◌%◌, ◌^◌, ◌≤◌, min, true, false, length, take, drop, Some, None, sum, MatchOption, MatchResult};
+ghost use Rattle.frames.specs.Frames.{is_whole, length_at, is_due, is_excess, is_fit, is_action, flaw_at, frame_at};
+ghost use Rattle.frames.specs.Seen.{Shows, PartsAt, kind_of, payload_of, Fits};
 
 use fluents::faults::{Fault, Refusal};
 
@@ -33,56 +32,53 @@ pub enum Frame<'a> {
     WorldStart(Payload<'a>),
 }
 
-// The number in two bytes, lowest first.
-fn word(file: &[u8], place: usize) -> u16
-    requires { place + 2 ≤ length file.now }
-    ensures { result ≡ little 2 file.now place }
-{
-    u16::from_le_bytes([file[place], file[place + 1]])
-}
-
 // The sum of some bytes, modulo 65,536.
 fn checksum(bytes: &[u8]) -> u16
     ensures { result ≡ sum bytes.now % 65536 }
 {
-    let mut total: u16 = 0;
-    for b in bytes {
-        total = total.wrapping_add(u16::from(*b));
-    }
-    total
+    bytes
+        .iter()
+        .fold(0, |total: u16, b| total.wrapping_add(u16::from(*b)))
 }
 
-// The length of the payload of the frame at this place, where the file reaches to the frame's end.
-fn payload_len(file: &[u8], place: usize) -> Option<usize>
-    ensures { MatchOption result (is_whole file.now place ≡ false) (λ l. (is_whole file.now place ≡ true) × (l ≡ length_at file.now place)) }
+// All bytes of the frame at this place, where the file reaches to the frame's end.
+fn whole(file: &[u8], place: usize) -> Option<&[u8]>
+    ensures { MatchOption result (is_whole file.now place ≡ false) (λ bytes. (is_whole file.now place ≡ true) × (bytes.now ≡ take (length_at file.now place + 6) (drop place file.now))) }
 {
-    if place > file.len() || file.len() - place < 6 {
-        return None;
-    }
-    let len = usize::from(word(file, place));
-    if file.len() - place - 6 < len {
-        None
-    } else {
-        Some(len)
-    }
+    let rest = file.get(place..)?;
+    let len = u16::from_le_bytes(*rest.first_chunk()?);
+    rest.get(..usize::from(len) + 6)
 }
 
-// Whether the frame ends with the sum of its bytes.
-fn sum_holds(file: &[u8], place: usize, len: usize) -> bool
-    requires { (is_whole file.now place ≡ true) × (len ≡ length_at file.now place) }
-    ensures { result ≡ sum_holds file.now place }
-{
-    checksum(&file[place..place + len + 4]) == word(file, place + len + 4)
+// The parts of a whole frame: all bytes before its sum, the kind and the payload among them, and the sum.
+#[derive(Clone, Copy)]
+struct Parts<'a> {
+    body: &'a [u8],
+    kind: u16,
+    payload: Payload<'a>,
+    sum: u16,
 }
 
-fn refused<'a>(refusal: Refusal, place: usize) -> Result<Frame<'a>, Fault>
-    ensures { result ≡ Err (record { refusal = refusal; place = place }) }
+// The parts of the frame at this place, where the file reaches to the frame's end.
+fn parts_at(file: &[u8], place: usize) -> Option<Parts<'_>>
+    ensures { MatchOption result (is_whole file.now place ≡ false) (λ parts. (is_whole file.now place ≡ true) × PartsAt file.now place parts) }
 {
-    Err(Fault { refusal, place })
+    let bytes = whole(file, place)?;
+    let (body, end) = bytes.split_at(bytes.len() - 2);
+    Some(Parts {
+        body,
+        kind: u16::from_le_bytes([body[2], body[3]]),
+        payload: Payload {
+            bytes: &body[4..],
+            place: place + 4,
+        },
+        sum: u16::from_le_bytes([end[0], end[1]]),
+    })
 }
 
 impl Due {
     // The frame of this kind number, where such a frame may come now.
+    // A kind is a number only up to here, where it becomes a case; an enum between would name each kind twice.
     fn frame<'a>(self, kind: u16, payload: Payload<'a>) -> Option<Frame<'a>>
         ensures { MatchOption result (is_due self kind ≡ false) (λ f. (is_due self kind ≡ true) × (kind_of f ≡ kind) × (payload_of f ≡ payload.entry)) }
     {
@@ -101,37 +97,28 @@ impl Due {
     fn is_full(self) -> bool
         ensures { result ≡ is_excess self 2 }
     {
-        match self {
-            Due::Body(actions) => actions >= 64,
-            Due::Header | Due::Start => false,
-        }
+        matches!(self, Due::Body(actions) if actions >= 64)
     }
 }
 
 impl<'a> Frame<'a> {
     // The frame at this place of the file, where `due` is due. A place past the end has no whole frame.
+    // The length of its payload is one that its kind may have.
     pub fn read(file: &'a [u8], place: usize, due: Due) -> Result<Frame<'a>, Fault>
-        ensures { MatchResult result (λ f. (flaw_at file.now place due ≡ None) × Shows f (frame_at file.now place)) (λ e. (flaw_at file.now place due ≡ Some e.refusal) × (e.place ≡ place)) }
+        ensures { MatchResult result (λ f. (flaw_at file.now place due ≡ None) × Shows f (frame_at file.now place) × Fits f) (λ e. (flaw_at file.now place due ≡ Some e.refusal) × (e.place ≡ place)) }
     {
-        let Some(len) = payload_len(file, place) else {
-            return refused(Refusal::Incomplete, place);
-        };
-        if !sum_holds(file, place, len) {
-            return refused(Refusal::WrongSum, place);
+        let parts = parts_at(file, place).ok_or(Refusal::Incomplete.at(place))?;
+        if checksum(parts.body) != parts.sum {
+            return Err(Refusal::WrongSum.at(place));
         }
-        let bytes = &file[place + 4..place + 4 + len];
-        let payload = Payload {
-            bytes,
-            place: place + 4,
-        };
-        let Some(frame) = due.frame(word(file, place + 2), payload) else {
-            return refused(Refusal::UnexpectedKind, place);
-        };
+        let frame = due
+            .frame(parts.kind, parts.payload)
+            .ok_or(Refusal::UnexpectedKind.at(place))?;
         if due.is_full() & frame.is_action() {
-            return refused(Refusal::TooManyActions, place);
+            return Err(Refusal::TooManyActions.at(place));
         }
         if !frame.fits() {
-            return refused(Refusal::UnfitLength, place);
+            return Err(Refusal::UnfitLength.at(place));
         }
         Ok(frame)
     }
@@ -164,26 +151,20 @@ impl<'a> Frame<'a> {
     pub fn is_action(self) -> bool
         ensures { result ≡ is_action (kind_of self.entry) }
     {
-        match self {
-            Frame::Doing(_) | Frame::Reading(_) => true,
-            Frame::Header(_) | Frame::Plan(_) | Frame::PartialStart(_) | Frame::WorldStart(_) =>
-                false,
-        }
+        matches!(self, Frame::Doing(_) | Frame::Reading(_))
     }
 
     // Whether the payload has a length that its kind may have.
     fn fits(self) -> bool
         ensures { result ≡ is_fit (kind_of self.entry) (length (payload_of self.entry).bytes.now) }
     {
+        let len = self.payload().bytes.len();
         match self {
-            Frame::Header(payload) | Frame::Reading(payload) => payload.bytes.len() == 17,
-            Frame::Doing(payload) => payload.bytes.len() == 32,
-            Frame::Plan(payload) => 1 <= payload.bytes.len() && payload.bytes.len() <= 1024,
-            Frame::PartialStart(payload) => payload.bytes.len() == 16,
-            Frame::WorldStart(payload) => {
-                let len = payload.bytes.len();
-                8 <= len && len <= 512 && len % 8 == 0
-            }
+            Frame::Header(_) | Frame::Reading(_) => len == 17,
+            Frame::Doing(_) => len == 32,
+            Frame::Plan(_) => (1..=1024).contains(&len),
+            Frame::PartialStart(_) => len == 16,
+            Frame::WorldStart(_) => (8..=512).contains(&len) && len % 8 == 0,
         }
     }
 }

@@ -1,4 +1,4 @@
-// A value on its way through an enum, as in `Result<Kept<Selected<'a>>, Fault>`.
+// A value on its way through an enum: the procedure of an armed run, beside the word that is lent to it.
 //
 // A struct whose `Model` has `also_owns` is opaque to the checker's generated proofs: they pass it
 // on whole. `Kept` takes no memory of its own: it is its value.
@@ -9,6 +9,7 @@ ghost use Rattle.std.specs.Borrow.{ftrue};
 
 use std::marker::Model;
 
+#[derive(Drop)]
 pub struct Kept<T> {
     value: T,
 }
@@ -29,11 +30,5 @@ impl<T> Kept<T> {
     {
         let Self { value } = self;
         value
-    }
-}
-
-impl<T: Drop> Drop for Kept<T> {
-    fn drop(self) {
-        drop(self.take());
     }
 }

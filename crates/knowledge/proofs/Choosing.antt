@@ -1,52 +1,34 @@
 -- The elements of a list that have a property, gathered one by one. Assumes nothing.
-use Rattle.std.proofs.Common.{◌≡◌, ℕ, ◌<◌, Bool, true, false, not, ◌⊎◌, List, [], ◌∷◌, ◌++◌, map, length, get_or, sym, refl, ap, ◌∙◌, subst, inl, inr, arith}
+use Rattle.std.proofs.Common.{◌≡◌, ℕ, ◌<◌, Bool, true, false, cond, List, [], ◌∷◌, filter, map, length, get_or, sym, refl, ap, ◌∙◌, subst, ⊎_elim, arith}
 use mathlib.Core.Bool.{beq}
 use Rattle.std.specs.List.{ContainsAt as Has}
-use Rattle.std.proofs.ByRecursion.{has_append_left, has_get_or, has_push, has_push_cases}
+use Rattle.std.proofs.ByRecursion.{has_get_or}
+use Rattle.least.proofs.Only.{has_cases, has_first, has_later}
 use Rattle.std.proofs.lemmas.List.{get_or-map, length-map}
 
 -- ys has those elements of xs that have the property
 abbrev pub Chosen : (ℕ → Type 0) → List ℕ → List ℕ → Type 0
 Chosen P xs ys = (w : ℕ) → (Has ys w → Has xs w × P w) × (Has xs w → P w → Has ys w)
 
-pub chosen_none : (P : ℕ → Type 0) → Chosen P [] []
-chosen_none P w = ((λ h. absurd (omega (arith, h.1))), (λ h p. h))
+module _ (P : ℕ → Type 0) (test : ℕ → Bool) (yes : (w : ℕ) → test w ≡ true → P w) (no : (w : ℕ) → test w ≡ false → P w → ⊥) where
+  -- one more element, of which the test gives b
+  chosen_more : (x : ℕ) (xs ys : List ℕ) (b : Bool) → test x ≡ b → Chosen P xs ys → Chosen P (x ∷ xs) (cond b (x ∷ ys) ys)
+  chosen_more x xs ys true e c w = (
+    (λ h. ⊎_elim
+        (λ (s : x ≡ w). (subst (Has (x ∷ xs)) s (has_first x xs), subst P s (yes x e)))
+        (λ (h : Has ys w). let got = (c w).0 h in (has_later x xs w got.0, got.1))
+        (has_cases x ys w h)),
+    (λ h p. ⊎_elim (λ (s : x ≡ w). subst (Has (x ∷ ys)) s (has_first x ys)) (λ (h : Has xs w). has_later x ys w ((c w).1 h p)) (has_cases x xs w h)),
+  )
+  chosen_more x xs ys false e c w = (
+    (λ h. let got = (c w).0 h in (has_later x xs w got.0, got.1)),
+    (λ h p. ⊎_elim (λ (s : x ≡ w). absurd (no x e (subst P (sym s) p))) (λ (h : Has xs w). (c w).1 h p) (has_cases x xs w h)),
+  )
 
-pub chosen_yes : (P : ℕ → Type 0) (xs ys : List ℕ) (x : ℕ) → P x → Chosen P xs ys → Chosen P (xs ++ x ∷ []) (ys ++ x ∷ [])
-chosen_yes P xs ys x p c w = (
-  (λ h. back (has_push_cases ys x w h)),
-  (λ h q. on q (has_push_cases xs x w h)),
-)
-  where
-    back : Has ys w ⊎ (x ≡ w) → Has (xs ++ x ∷ []) w × P w
-    back (inl h) = let got = (c w).0 h in (has_append_left xs (x ∷ []) w got.0, got.1)
-    back (inr e) = (subst (Has (xs ++ x ∷ [])) e (has_push xs x), subst P e p)
-
-    on : P w → Has xs w ⊎ (x ≡ w) → Has (ys ++ x ∷ []) w
-    on q (inl h) = has_append_left ys (x ∷ []) w ((c w).1 h q)
-    on q (inr e) = subst (Has (ys ++ x ∷ [])) e (has_push ys x)
-
-pub chosen_no : (P : ℕ → Type 0) (xs ys : List ℕ) (x : ℕ) → (P x → ⊥) → Chosen P xs ys → Chosen P (xs ++ x ∷ []) ys
-chosen_no P xs ys x n c w = (
-  (λ h. let got = (c w).0 h in (has_append_left xs (x ∷ []) w got.0, got.1)),
-  (λ h q. on q (has_push_cases xs x w h)),
-)
-  where
-    on : P w → Has xs w ⊎ (x ≡ w) → Has ys w
-    on q (inl h) = (c w).1 h q
-    on q (inr e) = absurd (n (subst P (sym e) q))
-
-pub beq_same : (a b : Bool) → not (beq a b) ≡ false → a ≡ b
-beq_same true true e = refl
-beq_same true false e = e
-beq_same false true e = sym e
-beq_same false false e = refl
-
-pub beq_differ : (a b : Bool) → not (beq a b) ≡ true → a ≡ b → ⊥
-beq_differ true true e q = let z : ◌≡◌ {A = ℕ} 0 1 = cc in omega arith
-beq_differ true false e q = let z : ◌≡◌ {A = ℕ} 0 1 = cc in omega arith
-beq_differ false true e q = let z : ◌≡◌ {A = ℕ} 0 1 = cc in omega arith
-beq_differ false false e q = let z : ◌≡◌ {A = ℕ} 0 1 = cc in omega arith
+  -- a filter by a test of the property gathers them
+  pub chosen_filter : (xs : List ℕ) → Chosen P xs (filter test xs)
+  chosen_filter [] w = ((λ h. absurd (omega (arith, h.1))), (λ h p. h))
+  chosen_filter (x ∷ xs) w = chosen_more x xs (filter test xs) (test x) refl (chosen_filter xs) w
 
 pub beq_true : (a b : Bool) → beq a b ≡ true → a ≡ b
 beq_true true true e = refl
@@ -55,13 +37,10 @@ beq_true false true e = e
 beq_true false false e = refl
 
 pub beq_false : (a b : Bool) → beq a b ≡ false → a ≡ b → ⊥
-beq_false true true e q = let z : ◌≡◌ {A = ℕ} 0 1 = cc in omega arith
-beq_false true false e q = let z : ◌≡◌ {A = ℕ} 0 1 = cc in omega arith
-beq_false false true e q = let z : ◌≡◌ {A = ℕ} 0 1 = cc in omega arith
-beq_false false false e q = let z : ◌≡◌ {A = ℕ} 0 1 = cc in omega arith
-
-pub chosen_as : (P : ℕ → Type 0) (xs ys xs' ys' : List ℕ) → xs ≡ xs' → ys ≡ ys' → Chosen P xs ys → Chosen P xs' ys'
-chosen_as P xs ys xs' ys' p q c = subst (λ zs. Chosen P zs ys') p (subst (Chosen P xs) q c)
+beq_false true true e q = cc
+beq_false true false e q = cc
+beq_false false true e q = cc
+beq_false false false e q = cc
 
 -- ---- what stands in a list of changed elements
 

@@ -1,4 +1,6 @@
+pub mod Arrays
 pub mod Choosing
 pub mod Determined
 pub mod Extending
 pub mod Listing
+pub mod Ascending

@@ -1,8 +1,7 @@
 -- How a list of worlds is made from the distinct ones. Assumes nothing.
-use Rattle.std.proofs.Common.{◌≡◌, ℕ, ◌+◌, ◌-◌, ◌<◌, ◌≤◌, List, [], ◌∷◌, ◌++◌, map, length, get_or, take, set, replicate, sym, ap, ◌∙◌, subst, ⊎_elim, arith}
-use native.Mathlib.Nat.{sub-zero}
+use Rattle.std.proofs.Common.{◌≡◌, ℕ, ◌<◌, ◌≤◌, List, ◌++◌, map, length, get_or, take, replicate, sym, ap, ◌∙◌, subst, ⊎_elim, arith}
 use Rattle.std.specs.List.{ContainsAt as Has}
-use Rattle.std.proofs.lemmas.List.{get_or_default, get_or-replicate, get_or_past, get_or-take, get_or-map, length-map, length-replicate, length-take-le, map_more, map_push, take-append-le, take_more, take_more_set}
+use Rattle.std.proofs.lemmas.List.{ext_get_or, get_or_default, get_or-replicate, get_or_past, get_or-take, get_or-map, length-map, length-replicate, length-take-le, take-append-le}
 use Rattle.std.proofs.lemmas.Bool.{cases_lt, eqb-true, leb-false}
 use Rattle.knowledge.proofs.Choosing.{has_map, has_unmap}
 use Rattle.least.specs.Kept.{MadeOf, Ascending, Reaches}
@@ -17,18 +16,14 @@ zeros n k =
     (λ (le : n ≤ k). get_or_past (replicate n 0) k 0 (subst (λ m. m ≤ k) (sym (length-replicate n 0)) le))
     (cases_lt k n)
 
--- one more world is wrapped
-pub spread_more : (ds : List Distinct) (ws : List ℕ) (i : ℕ) (x : Distinct) → i < length ds → i < length ws → world_of x ≡ get_or ws i 0
-    → map world_of (take i ds) ≡ take i ws → map world_of (take (i + 1) (set ds i x)) ≡ take (i + 1) ws
-spread_more ds ws i x in-ds in-ws at before =
-    ap (map world_of) (take_more_set ds i x in-ds) ∙ map_push world_of (take i ds) x ∙ ap (λ xs. xs ++ world_of x ∷ []) before
-    ∙ ap (λ w. take i ws ++ w ∷ []) at ∙ sym (take_more ws i 0 in-ws)
-
--- one more world is unwrapped
-pub padded_more : (ws : List ℕ) (ds : List Distinct) (i : ℕ) (d : Distinct) → i < length ws → i < length ds
-    → take i ws ≡ map world_of (take i ds) → take (i + 1) (set ws i (world_of (get_or ds i d))) ≡ map world_of (take (i + 1) ds)
-padded_more ws ds i d in-ws in-ds before =
-    take_more_set ws i (world_of (get_or ds i d)) in-ws ∙ ap (λ xs. xs ++ world_of (get_or ds i d) ∷ []) before ∙ sym (map_more world_of ds i d in-ds)
+-- a list that goes on behind the images of given elements begins with their list
+pub begins_with : {X Y : Type 0} (f : X → Y) (xs : List X) (ys : List Y) (d : X) (e : Y) → length xs ≤ length ys
+    → ((i : ℕ) → i < length xs → get_or ys i e ≡ f (get_or xs i d)) → take (length xs) ys ≡ map f xs
+begins_with f xs ys d e le at =
+    ext_get_or e (take (length xs) ys) (map f xs) (length-take-le (length xs) ys le ∙ sym (length-map xs f))
+    (λ i lt.
+    let in-xs : i < length xs = omega (arith, length-take-le (length xs) ys le) in
+    get_or-take (length xs) ys i e in-xs ∙ at i in-xs ∙ sym (get_or-map f xs i d e in-xs))
 
 -- a world stands in a list where it stands wrapped
 has_wrapped : (ds : List Distinct) (w : ℕ) → Has (map world_of ds) w → Has ds (record { world = w })
@@ -67,24 +62,23 @@ module _ (ds es : List Distinct) (ws : List ℕ) (n : ℕ) (size : length es ≡
         subst (λ xs. Has xs w) (sym front) (subst (λ v. Has (map world_of es) v) same (has_map world_of es under.0 under.1))),
   )
 
--- the first n of the kept worlds are the distinct ones, and ws begins with those; a part from the start is written as the checker has it
+-- the first n of the kept worlds are the distinct ones, and ws begins with those
 pub listed : (given : List ℕ) (spread kept rest : List Distinct) (ws : List ℕ) (n : ℕ) → 0 < length given
-    → map world_of (take (length given) spread) ≡ given → n ≤ length kept → take (length (take (n - 0) (kept ++ rest))) ws ≡ map world_of (take (n - 0) (kept ++ rest))
-    → ((k : ℕ) → length (take (n - 0) (kept ++ rest)) ≤ k → get_or ws k 0 ≡ 0)
-    → MadeOf (take (length given - 0) spread) (take n kept) → Ascending world_upto (take n kept) → Reaches world_below (take (length given - 0) spread) (take n kept)
+    → map world_of (take (length given) spread) ≡ given → n ≤ length kept → take (length (take n (kept ++ rest))) ws ≡ map world_of (take n (kept ++ rest))
+    → ((k : ℕ) → length (take n (kept ++ rest)) ≤ k → get_or ws k 0 ≡ 0)
+    → MadeOf (take (length given) spread) (take n kept) → Ascending world_upto (take n kept) → Reaches world_below (take (length given) spread) (take n kept)
     → Listed given ws n
 listed given spread kept rest ws n some all in-n front blank made up reaches =
-    let ds : List Distinct = take (length given - 0) spread in
+    let ds : List Distinct = take (length given) spread in
     let es : List Distinct = take n kept in
-    let is-given : map world_of ds ≡ given = ap (λ m. map world_of (take m spread)) (sub-zero (length given)) ∙ all in
-    let part : take (n - 0) (kept ++ rest) ≡ es = ap (λ m. take m (kept ++ rest)) (sub-zero n) ∙ take-append-le n kept rest in-n in
+    let part : take n (kept ++ rest) ≡ es = take-append-le n kept rest in-n in
     let size : length es ≡ n = length-take-le n kept in-n in
     let begins : take n ws ≡ map world_of es = subst (λ m. take m ws ≡ map world_of es) size (subst (λ xs. take (length xs) ws ≡ map world_of xs) part front) in
     record {
-      some = kept_some ds es ws n size begins (omega (arith, length-map ds world_of, ap length is-given)) reaches;
+      some = kept_some ds es ws n size begins (omega (arith, length-map ds world_of, ap length all)) reaches;
       ascends = kept_ascends ds es ws n size begins up;
       blank = λ k le. blank k (subst (λ m. m ≤ k) (sym (ap length part ∙ size)) le);
-      same = subst (λ xs. SameWorlds (take n ws) xs) is-given (kept_same ds es ws n size begins made reaches);
+      same = subst (λ xs. SameWorlds (take n ws) xs) all (kept_same ds es ws n size begins made reaches);
     }
 
 -- a number that bounds the given worlds bounds the made list

@@ -1,5 +1,5 @@
 // Kinds of knowledge: each means a set of worlds.
-ghost use Rattle.std.specs.Prelude.{◌≡◌, ℕ, ◌^◌, ◌<◌, true, false, MatchBool, MatchResult};
+ghost use Rattle.std.specs.Prelude.{◌≡◌, ℕ, ◌^◌, ◌<◌, true, false, MatchBool, MatchResult, ◌↔◌, IsTrue};
 ghost use Rattle.fluents.specs.Refusals.{fault_at};
 ghost use Rattle.fluents.specs.declared.faults.Refusal.TheVariants.{Contradiction};
 ghost use Rattle.knowledge.specs.Meaning.{HoldsIn, Knows, After, Learned, Same};
@@ -8,7 +8,8 @@ use crate::actions::DoingAction;
 use fluents::faults::Fault;
 use fluents::literals::{Fluent, Literal};
 
-// Both halves of what was split on a fluent, and whether each is there.
+// Both halves of what was split on a fluent, and whether each is there. Flags beside the values, and no `Option`s, since
+// a rule of the project asks for both values; an absent half repeats the knowledge.
 #[derive(Clone, Copy)]
 pub struct Halves<K> {
     pub has_true: bool,
@@ -24,7 +25,7 @@ pub trait Knowledge: Copy {
 
     // Whether every world has the literal.
     fn knows(&self, literal: Literal) -> bool
-        ensures { (result ≡ true → Knows (worlds self.now) literal) × (Knows (worlds self.now) literal → result ≡ true) };
+        ensures { IsTrue result ↔ Knows (worlds self.now) literal };
 
     // The worlds after the action; its conditions are the caller's matter.
     fn apply(self, action: DoingAction) -> Self
@@ -40,25 +41,19 @@ pub trait Knowledge: Copy {
         ensures true_half { MatchBool result.has_true (Same (worlds result.when_true) (Learned (record { fluent = fluent; value = true }) (worlds self))) ((result.when_true ≡ self) × ((w : ℕ) → worlds self w → HoldsIn (record { fluent = fluent; value = true }) w → ⊥)) }
         ensures false_half { MatchBool result.has_false (Same (worlds result.when_false) (Learned (record { fluent = fluent; value = false }) (worlds self))) ((result.when_false ≡ self) × ((w : ℕ) → worlds self w → HoldsIn (record { fluent = fluent; value = false }) w → ⊥)) }
     {
-        let (has_true, when_true) = match self.learn(Literal {
+        let on = self.learn(Literal {
             fluent,
             value: true,
-        }) {
-            Ok(half) => (true, half),
-            Err(_) => (false, self),
-        };
-        let (has_false, when_false) = match self.learn(Literal {
+        });
+        let off = self.learn(Literal {
             fluent,
             value: false,
-        }) {
-            Ok(half) => (true, half),
-            Err(_) => (false, self),
-        };
+        });
         Halves {
-            has_true,
-            has_false,
-            when_true,
-            when_false,
+            has_true: on.is_ok(),
+            has_false: off.is_ok(),
+            when_true: on.unwrap_or(self),
+            when_false: off.unwrap_or(self),
         }
     }
 

@@ -9,14 +9,14 @@ use crate::states::Row;
 use crate::worlds::World;
 use least::Least;
 
-// A world that is below itself alone, so that the least of such worlds are the distinct ones.
-#[derive(Clone, Copy, PartialEq, Eq, Debug)]
+// A world that is below itself alone, so that the least of such worlds are the distinct ones. Such
+// worlds ascend as numbers.
+#[derive(Clone, Copy, PartialEq, Eq, PartialOrd, Ord, Debug)]
 pub struct Distinct {
     pub world: World,
 }
 
-// A row is below each row that implies it. Rows ascend by their true fluents, then by the false
-// ones.
+// A row is below each row that implies it.
 impl Least for Row {
     ghost below = { row_below };
 
@@ -33,24 +33,17 @@ impl Least for Row {
         (eq-eqb _ _ (within_trans x.trues y.trues z.trues (eqb-true _ _ a.0) (eqb-true _ _ b.0)))
         (eq-eqb _ _ (within_trans x.falses y.falses z.falses (eqb-true _ _ a.1) (eqb-true _ _ b.1))) };
 
+    ghost upto_is_cmp = { Prim.search rules };
+
     ghost upto_antisymmetric = { Prim.search rules };
-
-    ghost upto_transitive = { Prim.search rules };
-
-    ghost upto_total = { Prim.search rules };
 
     ghost agrees = { Prim.search rules };
 
     fn is_below(&self, other: &Row) -> bool {
         self.trues & other.trues == self.trues && self.falses & other.falses == self.falses
     }
-
-    fn is_upto(&self, other: &Row) -> bool {
-        self.trues < other.trues || (self.trues == other.trues && self.falses <= other.falses)
-    }
 }
 
-// Worlds ascend as numbers.
 impl Least for Distinct {
     ghost below = { world_below };
 
@@ -62,19 +55,13 @@ impl Least for Distinct {
 
     ghost below_transitive = { Prim.search rules };
 
+    ghost upto_is_cmp = { Prim.search rules };
+
     ghost upto_antisymmetric = { Prim.search rules };
-
-    ghost upto_transitive = { Prim.search rules };
-
-    ghost upto_total = { Prim.search rules };
 
     ghost agrees = { Prim.search rules };
 
     fn is_below(&self, other: &Distinct) -> bool {
-        self.world == other.world
-    }
-
-    fn is_upto(&self, other: &Distinct) -> bool {
-        self.world <= other.world
+        self == other
     }
 }

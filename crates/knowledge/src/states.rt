@@ -17,8 +17,9 @@ pub struct PartialState {
     ghost fit_falses: { falses < 2 ^ 64 },
 }
 
-// A partial state as plain numbers, as it lies in arrays and slices; it is made into the value by a check.
-#[derive(Clone, Copy, PartialEq, Eq, Debug)]
+// A partial state as plain numbers, as it lies in arrays and slices; it is made into the value by a check. Rows ascend
+// by their true fluents, then by the false ones.
+#[derive(Clone, Copy, PartialEq, Eq, PartialOrd, Ord, Debug)]
 pub struct Row {
     pub trues: Set,
     pub falses: Set,

@@ -8,6 +8,7 @@ use std::process::Abort;
 use std::test::Fail;
 
 // The call was refused by this number, at place 0.
+// Each crate has its own copy, since tests cannot use another crate's tests.
 fn refused<T: Drop>(rt: &impl Abort, answer: Result<T, Fault>, number: u8) -> Result<(), Fail> {
     match answer {
         Ok(_) => Err(Fail::new("not refused")),

@@ -10,7 +10,7 @@ pub mod makers;
 pub type World = Set;
 
 // 1 to 64 worlds, strictly ascending. What follows them is 0, so that the same worlds are the same
-// value.
+// value. The numbers lie in an array beside their count, and not in an `ArrayVec`, which is not `Copy`.
 #[derive(Clone, Copy, PartialEq, Eq, Debug)]
 pub struct WorldList {
     worlds: [World; 64],

@@ -1,11 +1,13 @@
 -- The coverage law of partial states: the rows of a plan are exact, and no other list of rows is. Assumes nothing.
 use Rattle.std.proofs.Common.{◌≡◌, true, ◌⊎◌, List, ◌++◌, Ok, inl, inr}
 use Rattle.std.specs.List.{ContainsAt as Has}
-use Rattle.std.proofs.ByRecursion.{has_append_left, has_append_right}
+use Rattle.std.proofs.ByRecursion.{has_append_left, has_append_right, has_append_cases}
 use Rattle.knowledge.specs.Extends.{Extends}
 use Rattle.knowledge.specs.Orders.{row_below, row_upto}
+use Rattle.knowledge.specs.contracts.orders.RowLeast.TheImpl.Laws.{below_reflexive-law as row_below_refl, below_antisymmetric-law as row_below_antisym, below_transitive-law as row_below_trans}
 use Rattle.knowledge.specs.declared.states.PartialState.{PartialState}
 use Rattle.knowledge.specs.declared.states.Row.{Row}
+use Rattle.knowledge.proofs.Ascending.{row_upto_total}
 use Rattle.least.specs.Kept.{Reaches}
 use Rattle.least.proofs.Only.{least_only}
 use Rattle.meaning.specs.Laws.{IsState, RowList, Exact, Only}
@@ -14,9 +16,7 @@ use Rattle.meaning.specs.Steps.{Steps}
 use Rattle.meaning.proofs.Covering.{covered_well}
 use Rattle.meaning.proofs.Exactness.{well_covered}
 use Rattle.meaning.proofs.Extended.{below_covers, covers_below}
-use Rattle.meaning.proofs.Leasts.{row_below_refl, row_below_antisym, row_below_trans, row_upto_total}
 use Rattle.meaning.proofs.Listing.{rows_list}
-use Rattle.meaning.proofs.Members.{has_append_cases}
 use Rattle.meaning.proofs.Proper.{Proper}
 
 pub rows_exact : (goal : Row) (t : Steps) (rs : List Row) → IsState goal → Proper t → rows_of goal t ≡ Ok rs → Exact goal t rs

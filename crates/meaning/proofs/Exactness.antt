@@ -29,7 +29,7 @@ module _ (goal : Row) where
       → Walks goal t K vs (length vs) (Failed place cause) → ⊥
   well_not_failed t K vs place cause well walk =
       let same = (walks_only goal t K vs (length vs) (length vs) (Failed place cause) EndedWell walk (well vs (Failed place cause, walk, tt))).1 in
-      let z : ◌≡◌ {A = ℕ} 0 1 = cc in omega arith
+      cc
 
   well_ends : (at : ℕ) (K : ℕ → Type 0) → AllEndWell goal (ends at) K → (Covers goal K → ⊥) → ⊥
   unfolding Walks

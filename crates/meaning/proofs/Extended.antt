@@ -2,7 +2,7 @@
 use Rattle.std.proofs.Common.{◌≡◌, ℕ, ◌^◌, ◌<◌, Bool, true, false, not, ◌&&◌, ◌||◌, eqb, ◌⊎◌, sym, refl, ap, ◌∙◌, subst, inl, inr, arith}
 use lib.Bits.{bit_and, or_lt, and_self, and_comm}
 use lib.Pow.{pow-lt}
-use Rattle.std.proofs.lemmas.Bool.{eqb-true, eq-eqb, and_parts, and_from, not-true, both_ways}
+use Rattle.std.proofs.lemmas.Bool.{eqb-true, eq-eqb, and_parts, and_from, not-true, both_ways, false_from_ne_true}
 use Rattle.fluents.specs.Sets.{bit, only, union, minus, Apart, Within}
 use Rattle.fluents.proofs.Bits.{bit-or, bit-minus, within_members, members_within, apart_members, below_bits}
 use Rattle.knowledge.specs.Meaning.{Same}
@@ -12,7 +12,6 @@ use Rattle.knowledge.proofs.Extending.{step_fits, after_apart, after_extends, ea
 use Rattle.meaning.specs.Laws.{IsState}
 use Rattle.meaning.specs.Rows.{plus, less, allows}
 use Rattle.meaning.specs.Sets.{Covers, Moved, Told, Possible}
-use Rattle.meaning.proofs.Meeting.{refuted}
 
 -- the world has the literals of the state
 abbrev pub Extending : Row → ℕ → Type 0
@@ -90,9 +89,9 @@ told_possible f b s small free ok =
 -- and only there
 pub possible_allows : (f : ℕ) (b : Bool) (s : Row) → Possible (Told f b (Extending s)) → allows f b s ≡ true
 possible_allows f true s some =
-    ap not (refuted (bit s.falses f) (λ e. both_ways (bit some.0 f) (apart_members s.falses some.0 some.1.0.2 f e) some.1.1))
+    ap not (false_from_ne_true (bit s.falses f) (λ e. both_ways (bit some.0 f) (apart_members s.falses some.0 some.1.0.2 f e) some.1.1))
 possible_allows f false s some =
-    ap not (refuted (bit s.trues f) (λ e. both_ways (bit some.0 f) some.1.1 (within_members s.trues some.0 some.1.0.1 f e)))
+    ap not (false_from_ne_true (bit s.trues f) (λ e. both_ways (bit some.0 f) some.1.1 (within_members s.trues some.0 some.1.0.1 f e)))
 
 -- every world has a literal of the state
 pub has_value : (f : ℕ) (b : Bool) (s : Row) → has f b s ≡ true → (w : ℕ) → Extending s w → bit w f ≡ b

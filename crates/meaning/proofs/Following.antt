@@ -1,5 +1,5 @@
 -- Following a plan has one verdict, and the verdict says what becomes of whole walks. Assumes nothing.
-use Rattle.std.proofs.Common.{◌≡◌, ℕ, Bool, true, false, ◌⊎◌, List, [], ◌∷◌, length, sym, refl, ap, ◌∙◌, subst, inl, inr, arith}
+use Rattle.std.proofs.Common.{◌≡◌, ℕ, Bool, true, false, ◌⊎◌, List, [], ◌∷◌, length, sym, refl, ap, ◌∙◌, subst, inl, inr}
 use Rattle.knowledge.specs.Meaning.{Same}
 use Rattle.knowledge.specs.declared.states.Row.{Row}
 use Rattle.meaning.specs.declared.answers.Cause.{Cause}
@@ -25,7 +25,7 @@ then_both Holds v w f h k = f h k
 then_both (Fails place cause) v w f h k = h ∙ sym k
 
 holds_not_fails : {place : ℕ} {cause : Cause} → Holds ≡ Fails place cause → ⊥
-holds_not_fails e = let z : ◌≡◌ {A = ℕ} 0 1 = cc in omega arith
+holds_not_fails e = cc
 
 -- both hold where the later one does
 then_holds : {A : Type 0} (u : Verdict) → Then u A Holds → (u ≡ Holds) × A
@@ -53,7 +53,7 @@ unfolding stop_of
 failed e = ap stop_of e
 
 failed_not_well : {place : ℕ} {cause : Cause} → Failed place cause ≡ EndedWell → ⊥
-failed_not_well e = let z : ◌≡◌ {A = ℕ} 0 1 = cc in omega arith
+failed_not_well e = cc
 
 module _ (goal : Row) where
   pub follows_same : (t : Steps) (K L : ℕ → Type 0) → Same K L → (v : Verdict) → Follows goal t K v → Follows goal t L v

@@ -1,65 +1,16 @@
--- The least rows of a list: how rows are ordered, and that the rows kept are the least. Assumes nothing.
-use Rattle.std.proofs.Common.{◌≡◌, zero, suc, ◌≤◌, Bool, true, false, cond, not, ◌⊎◌, List, [], ◌∷◌, get_or, refl, ap, subst, inl, inr, ⊎_elim, arith}
-use lib.Bits.{and_self}
+-- The least rows of a list: that the rows kept are the least. Assumes nothing.
+use Rattle.std.proofs.Common.{◌≡◌, zero, suc, Bool, true, false, cond, not, ◌⊎◌, List, [], ◌∷◌, get_or, refl, ap, subst, inl, inr, ⊎_elim, arith}
 use Rattle.std.specs.List.{ContainsAt as Has}
 use Rattle.std.proofs.ByRecursion.{has_get_or}
-use Rattle.std.proofs.lemmas.Bool.{eqb-true, eq-eqb, and_from, and_parts, both_ways, not-true}
-use Rattle.std.proofs.lemmas.Bool.Decides.{nat_tests}
-use Rattle.fluents.proofs.Bits.{within_trans, within_antisym, within_le}
+use Rattle.std.proofs.lemmas.Bool.{both_ways, not-true, false_from_ne_true}
 use Rattle.knowledge.specs.Orders.{row_below, row_upto}
+use Rattle.knowledge.specs.contracts.orders.RowLeast.TheImpl.Laws.{below_reflexive-law as row_below_refl, below_transitive-law as row_below_trans, upto_antisymmetric-law as row_upto_antisym, agrees-law as row_agrees}
 use Rattle.knowledge.specs.declared.states.Row.{Row}
+use Rattle.knowledge.proofs.Ascending.{row_upto_trans}
 use Rattle.least.specs.Kept.{Ascending, Apart, LeastOf}
 use Rattle.meaning.specs.Rows.{keep, any_below, insert, more, least_rows}
-use Rattle.meaning.proofs.Meeting.{refuted}
 use Rattle.least.proofs.Only.{has_cases, has_first, has_later}
 use Rattle.meaning.proofs.Members.{has_none, in_keep, keep_in}
-
--- ---- how rows are ordered
-
-pub row_same : (x y : Row) → x.trues ≡ y.trues → x.falses ≡ y.falses → x ≡ y
-row_same x y p q = λ i. record { trues = p i; falses = q i }
-
-pub row_below_refl : (x : Row) → row_below x x ≡ true
-row_below_refl x = and_from _ _ (eq-eqb _ _ (and_self x.trues)) (eq-eqb _ _ (and_self x.falses))
-
-pub row_below_antisym : (x y : Row) → row_below x y ≡ true → row_below y x ≡ true → x ≡ y
-row_below_antisym x y p q =
-    let a = and_parts _ _ p in
-    let b = and_parts _ _ q in
-    row_same x y
-    (within_antisym x.trues y.trues (eqb-true _ _ a.0) (eqb-true _ _ b.0))
-    (within_antisym x.falses y.falses (eqb-true _ _ a.1) (eqb-true _ _ b.1))
-
-pub row_below_trans : (x y z : Row) → row_below x y ≡ true → row_below y z ≡ true → row_below x z ≡ true
-row_below_trans x y z p q =
-    let a = and_parts _ _ p in
-    let b = and_parts _ _ q in
-    and_from _ _
-    (eq-eqb _ _ (within_trans x.trues y.trues z.trues (eqb-true _ _ a.0) (eqb-true _ _ b.0)))
-    (eq-eqb _ _ (within_trans x.falses y.falses z.falses (eqb-true _ _ a.1) (eqb-true _ _ b.1)))
-
-pub row_upto_total : (x y : Row) → row_upto x y ≡ false → row_upto y x ≡ true
-row_upto_total x y p = grind (arith, nat_tests)
-
-pub row_upto_antisym : (x y : Row) → row_upto x y ≡ true → row_upto y x ≡ true → x ≡ y
-row_upto_antisym x y p q =
-    let a : x.trues ≡ y.trues = grind (arith, nat_tests) in
-    let b : x.falses ≡ y.falses = grind (arith, nat_tests) in
-    row_same x y a b
-
-pub row_upto_trans : (x y z : Row) → row_upto x y ≡ true → row_upto y z ≡ true → row_upto x z ≡ true
-row_upto_trans x y z p q = grind (arith, nat_tests)
-
--- the total order agrees with the partial one
-pub row_agrees : (x y : Row) → row_below x y ≡ true → row_upto x y ≡ true
-row_agrees x y p =
-    let a = and_parts _ _ p in
-    let t : x.trues ≤ y.trues = within_le x.trues y.trues (eqb-true _ _ a.0) in
-    let f : x.falses ≤ y.falses = within_le x.falses y.falses (eqb-true _ _ a.1) in
-    upto_from x y t f
-  where
-    upto_from : (x y : Row) → x.trues ≤ y.trues → x.falses ≤ y.falses → row_upto x y ≡ true
-    upto_from x y t f = grind (arith, nat_tests)
 
 -- ---- lists in line: each row strictly before the later ones, and none below another
 
@@ -75,12 +26,12 @@ abbrev Free : Row → Row → Type 0
 Free r y = (row_below r y ≡ false) × (row_below y r ≡ false)
 
 not_back : (y z : Row) → row_upto z y ≡ false → row_below z y ≡ false
-not_back y z later = refuted (row_below z y) (λ e. both_ways (row_upto z y) later (row_agrees z y e))
+not_back y z later = false_from_ne_true (row_below z y) (λ e. both_ways (row_upto z y) later (row_agrees z y e))
 
 -- of two rows of which neither is below the other, at most one comes before the other
 one_way : (r y : Row) → Free r y → row_upto r y ≡ true → row_upto y r ≡ false
 one_way r y free up =
-    refuted (row_upto y r) (λ e. both_ways (row_below r y) free.0 (subst (λ v. row_below r v ≡ true) (row_upto_antisym r y up e) (row_below_refl r)))
+    false_from_ne_true (row_upto y r) (λ e. both_ways (row_below r y) free.0 (subst (λ v. row_below r v ≡ true) (row_upto_antisym r y up e) (row_below_refl r)))
 
 lined_ascending : (ys : List Row) → Lined ys → Ascending row_upto ys
 lined_ascending [] lined i j d lt in-j = absurd (omega arith)
@@ -144,7 +95,7 @@ insert_lined r (y ∷ ys) lined free = go (row_upto r y) refl (insert_lined r ys
     -- where r comes before y, it comes before all
     first : row_upto r y ≡ true → (z : Row) → (y ≡ z) ⊎ Has ys z → row_upto z r ≡ false
     first up z (inl e) = subst (λ v. row_upto v r ≡ false) e (one_way r y free_y up)
-    first up z (inr h) = refuted (row_upto z r) (λ e. both_ways (row_upto z y) (lined.0 z h).0 (row_upto_trans z r y e up))
+    first up z (inr h) = false_from_ne_true (row_upto z r) (λ e. both_ways (row_upto z y) (lined.0 z h).0 (row_upto_trans z r y e up))
 
     -- where it does not, y comes before r too
     second : row_upto r y ≡ false → (z : Row) → (r ≡ z) ⊎ Has ys z → Before y z

@@ -1,3 +1,4 @@
+pub mod Beginnings
 pub mod Coverage
 pub mod Covering
 pub mod Exactness

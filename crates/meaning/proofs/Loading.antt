@@ -1,13 +1,17 @@
 -- What a loaded procedure has: its plan names the actions that are there, and its tree of steps is in range. Assumes nothing.
-use Rattle.std.proofs.Common.{◌≡◌, ℕ, zero, suc, ◌+◌, ◌^◌, ◌<◌, ◌≤◌, Bool, true, false, cond, ◌&&◌, eqb, ltb, leb, List, [], ◌∷◌, length, get_or, Some, None, Ok, Result, sym, refl, ap, subst, inl, inr, lt_of_lt_of_le, arith, pow_mono}
-use Rattle.std.proofs.lemmas.Bool.{and_parts, ltb-true, eqb-true}
+use Rattle.std.proofs.Common.{◌≡◌, ℕ, zero, suc, ◌+◌, ◌^◌, ◌<◌, ◌≤◌, Bool, true, false, ◌&&◌, eqb, ltb, leb, List, [], ◌∷◌, length, get_or, Option, Some, None, MatchOption, option_map, Ok, ◌∙◌, sym, refl, ap, subst, inl, inr, lt_of_lt_of_le, arith, pow_mono}
+use Rattle.std.proofs.lemmas.Bool.{and_parts, ltb-true, eqb-true, cond_both}
 use Rattle.fluents.specs.Sets.{Apart}
-use Rattle.fluents.specs.declared.faults.Fault.{Fault}
+use Rattle.knowledge.specs.declared.actions.Action.{Action}
+use Rattle.knowledge.specs.declared.actions.Action.TheVariants.{Doing as DoingAct, Reading as ReadingAct}
+use Rattle.knowledge.specs.declared.actions.DoingAction.{DoingAction}
+use Rattle.knowledge.specs.declared.actions.ReadingAction.{ReadingAction}
 use Rattle.knowledge.specs.declared.states.Row.{Row}
 use Rattle.knowledge.proofs.Extending.{true_not_false}
 use Rattle.frames.specs.Frames.{Frame}
 use Rattle.plans.specs.Trees.{Plan, finish, act, ask, gap, past, NodeAt, readings, Named, Fits}
 use Rattle.plans.proofs.Parses.{plan_spells}
+use Rattle.procedure.specs.Acts.{act_seen, is_do, is_read}
 use Rattle.procedure.specs.Fields.{set_at, row_at, is_inside, is_apart, is_state, is_header, is_doing, is_reading}
 use Rattle.procedure.specs.Procedures.{Act, doing, reading, Procedure, good_or, act_of, acts_of, does_at, reads_at, procedure_of}
 use Rattle.procedure.proofs.Holding.{then_ok, good_is, parts, few_fluents}
@@ -19,27 +23,52 @@ use Rattle.meaning.proofs.Proper.{Proper}
 
 -- ---- the action of a number
 
-pub doing_there : (acts : List Act) (a : ℕ) → does_at acts a ≡ true → (c : Row) × (add : ℕ) × (del : ℕ) × (act_at acts a ≡ Some (doing c add del))
-doing_there [] a e = absurd (true_not_false (sym e))
-doing_there (doing c add del ∷ acts) zero e = (c, add, del, refl)
-doing_there (reading c f ∷ acts) zero e = absurd (true_not_false (sym e))
-doing_there (x ∷ acts) (suc a) e = doing_there acts a e
+act_at_read : (acts : List Act) (a : ℕ) (x : Act) → a < length acts → ((d : Act) → get_or acts a d ≡ x) → act_at acts a ≡ Some x
+act_at_read [] a x low at = absurd (omega arith)
+act_at_read (y ∷ acts) zero x low at = ap Some (at y)
+act_at_read (y ∷ acts) (suc a) x low at = act_at_read acts a x (omega arith) at
 
-pub reading_there : (acts : List Act) (a : ℕ) → reads_at acts a ≡ true → (c : Row) × (f : ℕ) × (act_at acts a ≡ Some (reading c f))
-reading_there [] a e = absurd (true_not_false (sym e))
-reading_there (doing c add del ∷ acts) zero e = absurd (true_not_false (sym e))
-reading_there (reading c f ∷ acts) zero e = (c, f, refl)
-reading_there (x ∷ acts) (suc a) e = reading_there acts a e
-
-pub act_at_get_d : (acts : List Act) (a : ℕ) (x : Act) → a < length acts → ((d : Act) → get_or acts a d ≡ x) → act_at acts a ≡ Some x
-act_at_get_d [] a x low at = absurd (omega arith)
-act_at_get_d (y ∷ acts) zero x low at = ap Some (at y)
-act_at_get_d (y ∷ acts) (suc a) x low at = act_at_get_d acts a x (omega arith) at
-
-pub act_at_none : (acts : List Act) (a : ℕ) → length acts ≤ a → act_at acts a ≡ None
+act_at_none : (acts : List Act) (a : ℕ) → length acts ≤ a → act_at acts a ≡ None
 act_at_none [] a high = refl
 act_at_none (x ∷ acts) zero high = absurd (omega arith)
 act_at_none (x ∷ acts) (suc a) high = act_at_none acts a (omega arith)
+
+-- what a loaded file answers for the number a
+abbrev Answered : List Act → ℕ → Option Action → Type 0
+Answered acts a o = MatchOption o (length acts ≤ a) (λ x. (a < length acts) × ((d : Act) → get_or acts a d ≡ act_seen x))
+
+pub act_at_answered : (acts : List Act) (a : ℕ) (o : Option Action) → Answered acts a o → act_at acts a ≡ option_map act_seen o
+act_at_answered acts a None h = act_at_none acts a h
+act_at_answered acts a (Some x) h = act_at_read acts a (act_seen x) h.0 h.1
+
+-- where a doing action is there, it is the answer, and where a reading action is there, that is
+abbrev option_is : (Act → Bool) → Option Act → Bool
+option_is test None = false
+option_is test (Some x) = test x
+
+does_is : (acts : List Act) (a : ℕ) → does_at acts a ≡ option_is is_do (act_at acts a)
+does_is [] a = refl
+does_is (doing c add del ∷ acts) zero = refl
+does_is (reading c f ∷ acts) zero = refl
+does_is (doing c add del ∷ acts) (suc a) = does_is acts a
+does_is (reading c f ∷ acts) (suc a) = does_is acts a
+
+reads_is : (acts : List Act) (a : ℕ) → reads_at acts a ≡ option_is is_read (act_at acts a)
+reads_is [] a = refl
+reads_is (doing c add del ∷ acts) zero = refl
+reads_is (reading c f ∷ acts) zero = refl
+reads_is (doing c add del ∷ acts) (suc a) = reads_is acts a
+reads_is (reading c f ∷ acts) (suc a) = reads_is acts a
+
+pub doing_answered : (acts : List Act) (a : ℕ) (o : Option Action) → Answered acts a o → does_at acts a ≡ true → (x : DoingAction) × (o ≡ Some (DoingAct x))
+doing_answered acts a None h does = absurd (true_not_false (sym does ∙ does_is acts a ∙ ap (option_is is_do) (act_at_answered acts a None h)))
+doing_answered acts a (Some (DoingAct x)) h does = (x, refl)
+doing_answered acts a (Some (ReadingAct x)) h does = absurd (true_not_false (sym does ∙ does_is acts a ∙ ap (option_is is_do) (act_at_answered acts a (Some (ReadingAct x)) h)))
+
+pub reading_answered : (acts : List Act) (a : ℕ) (o : Option Action) → Answered acts a o → reads_at acts a ≡ true → (x : ReadingAction) × (o ≡ Some (ReadingAct x))
+reading_answered acts a None h reads = absurd (true_not_false (sym reads ∙ reads_is acts a ∙ ap (option_is is_read) (act_at_answered acts a None h)))
+reading_answered acts a (Some (DoingAct x)) h reads = absurd (true_not_false (sym reads ∙ reads_is acts a ∙ ap (option_is is_read) (act_at_answered acts a (Some (DoingAct x)) h)))
+reading_answered acts a (Some (ReadingAct x)) h reads = (x, refl)
 
 -- ---- the nodes of the plan
 
@@ -95,10 +124,6 @@ AllFit (x ∷ acts) = ActFits x × AllFit acts
 good_fits : (frame : Frame) (good : Bool) (v x : Act) → (good ≡ true → ActFits v) → good_or frame good v ≡ Ok x → ActFits x
 good_fits frame good v x fits e = let is = good_is frame good v x e in subst ActFits is.1 (fits is.0)
 
-by_kind : (b : Bool) (y z : Result Act Fault) (x : Act) → (y ≡ Ok x → ActFits x) → (z ≡ Ok x → ActFits x) → cond b y z ≡ Ok x → ActFits x
-by_kind true y z x f g e = f e
-by_kind false y z x f g e = g e
-
 module _ (n : ℕ) (few : n ≤ 64) where
   doing_fits : (xs : List ℕ) → is_doing n xs ≡ true → ActFits (doing (row_at xs 0) (set_at xs 16) (set_at xs 24))
   doing_fits xs e =
@@ -118,7 +143,10 @@ module _ (n : ℕ) (few : n ≤ 64) where
 
   act_fits : (frame : Frame) (x : Act) → act_of n frame ≡ Ok x → ActFits x
   act_fits frame x e =
-      by_kind (eqb frame.kind 2) _ _ x (good_fits frame _ _ x (doing_fits frame.payload)) (good_fits frame _ _ x (reading_fits frame.payload)) e
+      cond_both (eqb frame.kind 2) _ _ (λ r. r ≡ Ok x → ActFits x)
+      (λ _. good_fits frame _ _ x (doing_fits frame.payload))
+      (λ _. good_fits frame _ _ x (reading_fits frame.payload))
+      e
 
   acts_fit : (frames : List Frame) (acts : List Act) → acts_of n frames ≡ Ok acts → AllFit acts
   acts_fit [] acts e = subst AllFit (ok_same e) tt

@@ -1,6 +1,6 @@
 -- The worlds that have the literals of a row: of a joined one, of one before an action, of one with a literal more or less. Assumes nothing.
 use Rattle.std.proofs.Common.{◌≡◌, ℕ, Bool, true, false, not, ◌&&◌, ◌⊎◌, sym, refl, ap, ◌∙◌, inl, inr, ⊎_elim, arith}
-use Rattle.std.proofs.lemmas.Bool.{eqb-true, eq-eqb, and_from, and_parts, or_cases, or_left, or_right, not-true, not_from_false, both_ways}
+use Rattle.std.proofs.lemmas.Bool.{eqb-true, eq-eqb, and_from, and_parts, or_cases, or_left, or_right, not-true, not_from_false, both_ways, false_from_ne_true}
 use Rattle.fluents.specs.Sets.{bit, only, union, minus, Apart}
 use Rattle.fluents.proofs.Bits.{bit-or, bit-minus, bit-only, within_members, apart_members, members_apart}
 use Rattle.knowledge.proofs.Extending.{step, bit-step}
@@ -57,14 +57,9 @@ below_meets a b w under m i =
       (λ e. (m i).1 (within_members a.falses b.falses (eqb-true _ _ both.1) i e)),
     )
 
--- a test that cannot be true
-pub refuted : (b : Bool) → (b ≡ true → ⊥) → b ≡ false
-refuted true n = absurd (n refl)
-refuted false n = refl
-
 pub meets_sound : (r : Row) (w : ℕ) → Meets r w → is_sound r ≡ true
 meets_sound r w m =
-    eq-eqb _ _ (members_apart r.trues r.falses (λ i t. refuted (bit r.falses i) (λ f. both_ways (bit w i) ((m i).1 f) ((m i).0 t))))
+    eq-eqb _ _ (members_apart r.trues r.falses (λ i t. false_from_ne_true (bit r.falses i) (λ f. both_ways (bit w i) ((m i).1 f) ((m i).0 t))))
 
 -- ---- before a doing action; one fluent: a and d say whether it is made true or false, v whether it is true before
 
@@ -145,5 +140,5 @@ less_meets f true x w m told i = ((λ e. ⊎_elim (at_only f true w i told) (m i
 less_meets f false x w m told i = ((m i).0, (λ e. ⊎_elim (at_only f false w i told) (m i).1 (less_cases x.falses f i e)))
 
 pub meets_allows : (f : ℕ) (b : Bool) (x : Row) (w : ℕ) → Meets x w → bit w f ≡ b → allows f b x ≡ true
-meets_allows f true x w m told = not_from_false (bit x.falses f) (refuted (bit x.falses f) (λ e. both_ways (bit w f) ((m f).1 e) told))
-meets_allows f false x w m told = not_from_false (bit x.trues f) (refuted (bit x.trues f) (λ e. both_ways (bit w f) told ((m f).0 e)))
+meets_allows f true x w m told = not_from_false (bit x.falses f) (false_from_ne_true (bit x.falses f) (λ e. both_ways (bit w f) ((m f).1 e) told))
+meets_allows f false x w m told = not_from_false (bit x.trues f) (false_from_ne_true (bit x.trues f) (λ e. both_ways (bit w f) told ((m f).0 e)))

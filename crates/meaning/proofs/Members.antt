@@ -1,7 +1,7 @@
 -- Which rows stand in a list of candidates: those of the joining, of the regression and of a reading. Assumes nothing.
 use Rattle.std.proofs.Common.{◌≡◌, ℕ, Bool, true, false, cond, ◌⊎◌, List, [], ◌∷◌, ◌++◌, map, sym, refl, ap, ◌∙◌, subst, inl, inr, ⊎_elim, arith}
 use Rattle.std.specs.List.{ContainsAt as Has}
-use Rattle.std.proofs.ByRecursion.{has_append_left, has_append_right}
+use Rattle.std.proofs.ByRecursion.{has_append_left, has_append_right, has_append_cases}
 use Rattle.std.proofs.lemmas.Bool.{both_ways}
 use Rattle.knowledge.proofs.Choosing.{has_map, has_unmap}
 use Rattle.least.proofs.Only.{has_cases, has_first, has_later}
@@ -15,14 +15,6 @@ has_none z has = omega (arith, has.1)
 
 pub has_single : {X : Type 0} (x z : X) → Has (x ∷ []) z → x ≡ z
 has_single x z has = ⊎_elim (λ (e : x ≡ z). e) (λ (h : Has [] z). absurd (has_none z h)) (has_cases x [] z has)
-
-pub has_append_cases : {X : Type 0} (xs ys : List X) (z : X) → Has (xs ++ ys) z → Has xs z ⊎ Has ys z
-has_append_cases [] ys z has = inr has
-has_append_cases (x ∷ xs) ys z has = first (has_cases x (xs ++ ys) z has) (has_append_cases xs ys z)
-  where
-    first : (x ≡ z) ⊎ Has (xs ++ ys) z → (Has (xs ++ ys) z → Has xs z ⊎ Has ys z) → Has (x ∷ xs) z ⊎ Has ys z
-    first (inl e) rest = inl (subst (Has (x ∷ xs)) e (has_first x xs))
-    first (inr h) rest = ⊎_elim (λ (g : Has xs z). inl (has_later x xs z g)) (λ (g : Has ys z). inr g) (rest h)
 
 -- ---- the rows that pass a test
 

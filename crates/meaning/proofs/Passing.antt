@@ -1,70 +1,77 @@
 -- Plans one after the other, and what passing a node leaves of them. Assumes nothing.
-use Rattle.std.proofs.Common.{◌≡◌, ℕ, ◌+◌, ◌-◌, ◌<◌, ◌≤◌, List, [], ◌∷◌, ◌++◌, length, get_or, drop, sym, refl, ap, ◌∙◌, append_assoc, arith, length-append, length-drop}
-use Rattle.std.proofs.lemmas.List.{drop_more, drop_all}
-use Rattle.plans.specs.Trees.{Plan, finish, act, ask, gap, encode, past}
-use Rattle.plans.proofs.Codes.{some_bytes}
-use Rattle.plans.proofs.Places.{rest_one, rest_two, long_two}
+use Rattle.std.proofs.Common.{◌≡◌, ℕ, ◌+◌, ◌-◌, ◌<◌, ◌≤◌, List, [], ◌∷◌, ◌++◌, length, Option, Some, None, Bor, sym, refl, ap, ◌∙◌, ◌⊎◌, inl, inr, append_assoc, append-nil, arith}
+use Rattle.std.specs.Slice.Iter.{iter_rest, iter_steps}
+use Rattle.std.specs.declared.slice.Iter.{Iter}
+use Rattle.plans.specs.Kinds.{code_of}
+use Rattle.plans.specs.declared.Kind.{Kind}
+use Rattle.plans.specs.declared.Kind.TheVariants.{End, Doing, Reading, Gap}
+use Rattle.plans.specs.Trees.{Plan, finish, act, ask, gap, encode}
 
 -- the bytes of several plans, one after the other
 abbrev pub encodes : List Plan → List ℕ
 encodes [] = []
 encodes (q ∷ qs) = encode q ++ encodes qs
 
--- of the plan q at offset i of s, with rest behind it, so many plans are left to pass at offset j
-abbrev pub Ahead : List ℕ → ℕ → Plan → List ℕ → ℕ → ℕ → Type 0
-Ahead s i q rest j due = (qs : List Plan) × (length qs ≡ due) × (drop j s ≡ encodes qs ++ rest) × (j + length (encodes qs) ≡ past i q)
+-- the bytes that are left are those of so many plans, with rest behind them
+abbrev pub Ahead : List ℕ → ℕ → List ℕ → Type 0
+Ahead left due rest = (qs : List Plan) × (length qs ≡ due) × (left ≡ encodes qs ++ rest)
 
--- the first byte of what is left
-pub first_is : (s : List ℕ) (j b : ℕ) (bs : List ℕ) → j < length s → drop j s ≡ b ∷ bs → get_or s j 0 ≡ b
-first_is s j b bs h e = let m = drop_more s j 0 h in cc
+pub ahead_first : (left : List ℕ) (q : Plan) (rest : List ℕ) → left ≡ encode q ++ rest → Ahead left 1 rest
+ahead_first left q rest e = (q ∷ [], refl, e ∙ ap (λ (l : List ℕ). l ++ rest) (sym (append-nil (encode q))))
 
-module _ (s : List ℕ) (i : ℕ) (q : Plan) (rest : List ℕ) (j due : ℕ) where
-  pub ahead_first : drop i s ≡ encode q ++ rest → Ahead s i q rest i 1
-  ahead_first e = (q ∷ [], refl, e ∙ ap (λ (l : List ℕ). l ++ rest) (sym (mathlib.Core.List.append-nil (encode q))), omega (arith, length-append (encode q) []))
+-- where plans are left, bytes are
+pub ahead_some : (left : List ℕ) (due : ℕ) (rest : List ℕ) → 0 < due → length left ≡ 0 → Ahead left due rest → ⊥
+ahead_some left due rest pos none ([], n, e) = omega arith
+ahead_some left due rest pos none (finish ∷ qs, n, e) = omega (arith, ap length e)
+ahead_some left due rest pos none (act a p ∷ qs, n, e) = omega (arith, ap length e)
+ahead_some left due rest pos none (ask a p q ∷ qs, n, e) = omega (arith, ap length e)
+ahead_some left due rest pos none (gap ∷ qs, n, e) = omega (arith, ap length e)
 
-  -- so many plans have at least as many bytes
-  many : (qs : List Plan) → length qs ≤ length (encodes qs)
-  many [] = omega arith
-  many (x ∷ xs) = omega (arith, many xs, some_bytes x, length-append (encode x) (encodes xs))
+-- the first of them is that of a node
+pub ahead_known : (left : List ℕ) (due : ℕ) (rest : List ℕ) (b : ℕ) (bs : List ℕ) → 0 < due → left ≡ b ∷ bs → 3 < b → Ahead left due rest → ⊥
+ahead_known left due rest b bs pos first high ([], n, e) = omega arith
+ahead_known left due rest b bs pos first high (finish ∷ qs, n, e) = let is : b ≡ 0 = cc in omega arith
+ahead_known left due rest b bs pos first high (act a p ∷ qs, n, e) = let is : b ≡ 1 = cc in omega arith
+ahead_known left due rest b bs pos first high (ask a p q ∷ qs, n, e) = let is : b ≡ 2 = cc in omega arith
+ahead_known left due rest b bs pos first high (gap ∷ qs, n, e) = let is : b ≡ 3 = cc in omega arith
 
-  pub ahead_room : Ahead s i q rest j due → due ≤ length s
-  ahead_room a = omega (arith, many a.0, a.1, ap length a.2, length-append (encodes a.0) rest, length-drop j s)
+-- ---- what a step of the iterator leaves
 
-  pub ahead_none : Ahead s i q rest j due → due ≡ 0 → j ≡ past i q
-  ahead_none (([], n, e, l)) z = omega (arith, l)
-  ahead_none ((x ∷ xs, n, e, l)) z = absurd (omega (arith, n, z))
+one_on : (s t : Iter ℕ) (r : Option (Bor ℕ)) (b : ℕ) (bs : List ℕ) → iter_steps s r t → iter_rest s ≡ b ∷ bs → iter_rest t ≡ bs
+one_on s t None b bs h e = absurd (omega (arith, ap length e))
+one_on s t (Some x) b bs h e = cc
 
-  pub ahead_over : Ahead s i q rest j due → length s ≤ j → j ≡ past i q
-  ahead_over (([], n, e, l)) z = omega (arith, l)
-  ahead_over ((x ∷ xs, n, e, l)) z =
-      absurd (omega (arith, ap length (e), ap length (drop_all j s z), length-append (encodes (x ∷ xs)) rest, length-append (encode x) (encodes xs), some_bytes x))
+pub not_longer : (s t : Iter ℕ) (r : Option (Bor ℕ)) → iter_steps s r t → length (iter_rest t) ≤ length (iter_rest s)
+not_longer s t None h = omega (arith, ap (λ x. length (iter_rest x)) h.1)
+not_longer s t (Some x) h = omega (arith, ap length h)
 
-  module _ (h : j < length s) (pos : 0 < due) where
-    pub leaf_passed : (get_or s j 0 ≡ 1 → ⊥) → (get_or s j 0 ≡ 2 → ⊥) → Ahead s i q rest j due → Ahead s i q rest (j + 1) (due - 1)
-    leaf_passed n1 n2 (([], n, e, l)) = absurd (omega (arith, n))
-    leaf_passed n1 n2 ((finish ∷ qs, n, e, l)) = (qs, omega (arith, n), rest_one s j 0 _ e, omega (arith, l))
-    leaf_passed n1 n2 ((act a p ∷ qs, n, e, l)) = absurd (n1 (first_is s j 1 _ h e))
-    leaf_passed n1 n2 ((ask a p r ∷ qs, n, e, l)) = absurd (n2 (first_is s j 2 _ h e))
-    leaf_passed n1 n2 ((gap ∷ qs, n, e, l)) = (qs, omega (arith, n), rest_one s j 3 _ e, omega (arith, l))
+-- ---- the first byte is passed, which is that of the kind k, and then the number of an action where one follows
 
-    pub doing_passed : get_or s j 0 ≡ 1 → Ahead s i q rest j due → (j + 2 ≤ length s) × Ahead s i q rest (j + 2) due
-    doing_passed is (([], n, e, l)) = absurd (omega (arith, n))
-    doing_passed is ((finish ∷ qs, n, e, l)) = absurd (omega (arith, first_is s j 0 _ h e, is))
-    doing_passed is ((act a p ∷ qs, n, e, l)) = (long_two s j 1 a _ e, (p ∷ qs, n, rest_two s j 1 a _ e, omega (arith, l)))
-    doing_passed is ((ask a p r ∷ qs, n, e, l)) = absurd (omega (arith, first_is s j 2 _ h e, is))
-    doing_passed is ((gap ∷ qs, n, e, l)) = absurd (omega (arith, first_is s j 3 _ h e, is))
+module _ (left : List ℕ) (due : ℕ) (rest : List ℕ) (k : Kind) (b : ℕ) (s : Iter ℕ) (first : left ≡ b ∷ iter_rest s) (code : code_of k ≡ b) (pos : 0 < due) where
+  pub leaf_passed : (k ≡ End) ⊎ (k ≡ Gap) → Ahead left due rest → Ahead (iter_rest s) (due - 1) rest
+  leaf_passed is ([], n, e) = absurd (omega arith)
+  leaf_passed is (finish ∷ qs, n, e) = (qs, omega arith, cc)
+  leaf_passed (inl is) (act a p ∷ qs, n, e) = cc (ap code_of is)
+  leaf_passed (inr is) (act a p ∷ qs, n, e) = cc (ap code_of is)
+  leaf_passed (inl is) (ask a p q ∷ qs, n, e) = cc (ap code_of is)
+  leaf_passed (inr is) (ask a p q ∷ qs, n, e) = cc (ap code_of is)
+  leaf_passed is (gap ∷ qs, n, e) = (qs, omega arith, cc)
 
-    pub reading_passed : get_or s j 0 ≡ 2 → Ahead s i q rest j due → (j + 2 ≤ length s) × Ahead s i q rest (j + 2) (due + 1)
-    reading_passed is (([], n, e, l)) = absurd (omega (arith, n))
-    reading_passed is ((finish ∷ qs, n, e, l)) = absurd (omega (arith, first_is s j 0 _ h e, is))
-    reading_passed is ((act a p ∷ qs, n, e, l)) = absurd (omega (arith, first_is s j 1 _ h e, is))
-    reading_passed is ((ask a p r ∷ qs, n, e, l)) = (
-      long_two s j 2 a _ e,
-      (
-        p ∷ (r ∷ qs),
-        omega (arith, n),
-        rest_two s j 2 a _ e ∙ ap (λ (x : List ℕ). x ++ rest) (append_assoc (encode p) (encode r) (encodes qs)),
-        omega (arith, l, ap length (append_assoc (encode p) (encode r) (encodes qs))),
-      ),
+  module _ (t : Iter ℕ) (r : Option (Bor ℕ)) (step : iter_steps s r t) where
+    pub doing_passed : k ≡ Doing → Ahead left due rest → Ahead (iter_rest t) due rest
+    doing_passed is ([], n, e) = absurd (omega arith)
+    doing_passed is (finish ∷ qs, n, e) = cc (ap code_of is)
+    doing_passed is (act a p ∷ qs, n, e) = (p ∷ qs, n, one_on s t r a _ step (cc))
+    doing_passed is (ask a p q ∷ qs, n, e) = cc (ap code_of is)
+    doing_passed is (gap ∷ qs, n, e) = cc (ap code_of is)
+
+    pub reading_passed : k ≡ Reading → Ahead left due rest → Ahead (iter_rest t) (due + 1) rest
+    reading_passed is ([], n, e) = absurd (omega arith)
+    reading_passed is (finish ∷ qs, n, e) = cc (ap code_of is)
+    reading_passed is (act a p ∷ qs, n, e) = cc (ap code_of is)
+    reading_passed is (ask a p q ∷ qs, n, e) = (
+      p ∷ (q ∷ qs),
+      omega arith,
+      one_on s t r a (((encode p ++ encode q) ++ encodes qs) ++ rest) step (cc) ∙ ap (λ (l : List ℕ). l ++ rest) (append_assoc (encode p) (encode q) (encodes qs)),
     )
-    reading_passed is ((gap ∷ qs, n, e, l)) = absurd (omega (arith, first_is s j 3 _ h e, is))
+    reading_passed is (gap ∷ qs, n, e) = cc (ap code_of is)

@@ -1,5 +1,5 @@
 -- How the rows of a node come from those of the nodes below it. Assumes nothing.
-use Rattle.std.proofs.Common.{◌≡◌, ℕ, ◌≤◌, Bool, true, false, cond, leb, List, [], ◌∷◌, length, Ok, Err, sym, refl, subst, arith}
+use Rattle.std.proofs.Common.{◌≡◌, ℕ, ◌≤◌, Bool, true, false, cond, leb, List, [], ◌∷◌, length, Ok, Err, sym, refl, subst}
 use Rattle.std.proofs.lemmas.Bool.{leb-true}
 use Rattle.fluents.specs.Refusals.{fault_at}
 use Rattle.fluents.specs.declared.faults.Refusal.TheVariants.{TooManyRows}
@@ -14,7 +14,7 @@ limited_ok at xs rs e = go (leb (length xs) 16) refl e
   where
     go : (b : Bool) → leb (length xs) 16 ≡ b → cond b (Ok xs) (Err (fault_at TooManyRows at)) ≡ Ok rs → (rs ≡ xs) × (length rs ≤ 16)
     go true few q = let same : xs ≡ rs = cc in (sym same, subst (λ l. length l ≤ 16) same (leb-true (length xs) 16 few))
-    go false many q = let z : ◌≡◌ {A = ℕ} 0 1 = cc in absurd (omega arith)
+    go false many q = cc
 
 module _ (goal : Row) where
   pub ends_rows : (at : ℕ) (rs : List Row) → rows_of goal (ends at) ≡ Ok rs → rs ≡ goal ∷ []

@@ -1,6 +1,6 @@
 -- The coverage law: what listed rows promise of whole walks. Assumes nothing.
 -- `Has rs r` says that r stands in rs. `Ascending` and `NoneBelow` (no element is below another) are those of the least-element keeper.
-use Rattle.std.specs.Prelude.{◌≡◌, ℕ, ◌^◌, ◌<◌, Bool, List}
+use Rattle.std.specs.Prelude.{◌≡◌, ℕ, ◌^◌, ◌<◌, Bool, List, Ok}
 use Rattle.std.specs.List.{ContainsAt as Has}
 use Rattle.fluents.specs.Sets.{Apart}
 use Rattle.knowledge.specs.Extends.{Extends}
@@ -11,12 +11,18 @@ use Rattle.least.specs.Kept.{Ascending, Apart as NoneBelow}
 use Rattle.meaning.specs.declared.answers.Stop.{Stop}
 use Rattle.meaning.specs.declared.answers.Stop.TheVariants.{EndedWell, Failed, Refused, UsedUp}
 use Rattle.meaning.specs.Sets.{Covers}
-use Rattle.meaning.specs.Steps.{Steps}
+use Rattle.procedure.specs.Procedures.{Procedure}
+use Rattle.meaning.specs.Rows.{rows_of}
+use Rattle.meaning.specs.Steps.{Steps, tree_of}
 use Rattle.meaning.specs.Walks.{Walks, Agrees, AllEndWell}
 
 -- one of the rows covers K
 abbrev pub CoveredBy : List Row → (ℕ → Type 0) → Type 0
 CoveredBy rs K = (r : Row) × Has rs r × Covers r K
+
+-- X holds if the procedure's rows are listed and one of them covers K
+abbrev pub IfCovered : Procedure → (ℕ → Type 0) → Type 0 → Type 0
+IfCovered p K X = (rs : List Row) → rows_of p.goal (tree_of p) ≡ Ok rs → CoveredBy rs K → X
 
 -- the walk did not stop at a failing node: no unmet condition, no gap, no end without the goal known
 abbrev pub NoFailure : Stop → Type 0

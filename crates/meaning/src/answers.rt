@@ -10,11 +10,11 @@ use std::fmt;
 #[derive(Clone, Copy, PartialEq, Eq, Debug)]
 pub enum Cause {
     // the conditions of the node's action are not known
-    UnmetConditions,
+    UnmetConditions = 1,
     // the plan ends, and the goal is not known
-    GoalUnknown,
+    GoalUnknown = 2,
     // the plan has a gap there
-    Gap,
+    Gap = 3,
 }
 
 impl Cause {
@@ -22,15 +22,12 @@ impl Cause {
     pub fn number(self) -> u8
         ensures { result ≡ cause_number self }
     {
-        match self {
-            Cause::UnmetConditions => 1,
-            Cause::GoalUnknown => 2,
-            Cause::Gap => 3,
-        }
+        self as u8
     }
 }
 
-// Whether a plan reaches its goal from what is known; or the first node that fails, by its place in the file, and why.
+// Whether a plan reaches its goal from what is known; or the first node that fails, by its place in the file, and why. An enum
+// of its own, by a rule of the project: that a plan fails is an answer, and refuses nothing.
 #[derive(Clone, Copy, PartialEq, Eq, Debug)]
 pub enum Verdict {
     Holds,

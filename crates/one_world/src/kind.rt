@@ -22,7 +22,7 @@ impl Knowledge for OneWorld {
 
     // The world loses Del and gains Add.
     fn apply(self, action: DoingAction) -> OneWorld {
-        OneWorld::new(self.world ^ (self.world & action.del()) | action.add())
+        OneWorld::new(action.after(self.world))
     }
 
     // The same world, which has the literal already.
@@ -30,10 +30,7 @@ impl Knowledge for OneWorld {
         if self.knows(literal) {
             Ok(self)
         } else {
-            Err(Fault {
-                refusal: Refusal::Contradiction,
-                place: 0,
-            })
+            Err(Refusal::Contradiction.into())
         }
     }
 }

@@ -2,7 +2,6 @@ use crate::OneWorld;
 use fluents::faults::{Fault, Refusal};
 use fluents::literals::{Fluent, Literal};
 use frames::selected::Selected;
-use kept::Kept;
 use knowledge::actions::DoingAction;
 use knowledge::kinds::Knowledge;
 use knowledge::states::PartialState;
@@ -16,6 +15,7 @@ use std::process::Abort;
 use std::test::Fail;
 
 // The value was refused by number 10, at place 0.
+// Each crate has its own copy, since tests cannot use another crate's tests.
 fn refused(rt: &impl Abort, answer: Result<OneWorld, Fault>) -> Result<(), Fail> {
     match answer {
         Ok(_) => Err(Fail::new("not refused")),
@@ -73,6 +73,7 @@ fn one_half_of_a_split_is_absent(rt: HostRuntime) -> Result<(), Fail> {
 
 // Fluent 2 is read: where it is true, action 0 (which needs fluent 0) makes fluent 1 true, the goal; where it is false,
 // action 1 (which needs fluent 0 false) makes fluent 0 true before that. The reading stands at place 187, the true branch at 189.
+// Each crate has its own copy, since tests cannot use another crate's tests.
 const FILE: &[u8; 221] = b"\
 \x11\x00\x01\x00\x03\x02\x00\x00\x00\x00\x00\x00\x00\x00\x00\x00\x00\x00\x00\x00\x00\x17\x00\
 \x20\x00\x02\x00\x01\x00\x00\x00\x00\x00\x00\x00\x00\x00\x00\x00\x00\x00\x00\x00\x02\x00\x00\x00\x00\x00\x00\x00\x00\x00\x00\x00\x00\x00\x00\x00\x25\x00\
@@ -84,8 +85,8 @@ const FILE: &[u8; 221] = b"\
 \x10\x00\x05\x00\x00\x00\x00\x00\x00\x00\x00\x00\x02\x00\x00\x00\x00\x00\x00\x00\x17\x00";
 
 // The file, loaded.
-fn opened() -> Result<Kept<Opened<'static>>, Fail> {
-    let selected = Selected::select(FILE)?.take();
+fn opened() -> Result<Opened<'static>, Fail> {
+    let selected = Selected::select(FILE)?;
     let mut list = WorldList::single(0);
     match Loaded::load(selected, &mut list) {
         Ok(opened) => Ok(opened),
@@ -95,7 +96,7 @@ fn opened() -> Result<Kept<Opened<'static>>, Fail> {
 
 #[test]
 fn a_plan_is_followed(rt: HostRuntime) -> Result<(), Fail> {
-    let opened = opened()?.take();
+    let opened = opened()?;
     assert_eq!(rt; follow(&opened.loaded, OneWorld::new(0)), Verdict::Holds);
     assert_eq!(rt;
         follow(&opened.loaded, OneWorld::new(4)),
@@ -109,7 +110,7 @@ fn a_plan_is_followed(rt: HostRuntime) -> Result<(), Fail> {
 
 #[test]
 fn a_plan_is_walked(rt: HostRuntime) -> Result<(), Fail> {
-    let opened = opened()?.take();
+    let opened = opened()?;
     let ended = walk(&opened.loaded, OneWorld::new(0), &[false, true]);
     assert_eq!(rt; ended.stop, Stop::EndedWell);
     assert_eq!(rt; ended.used, 1);
@@ -121,16 +122,10 @@ fn a_plan_is_walked(rt: HostRuntime) -> Result<(), Fail> {
 
 #[test]
 fn a_walk_refuses_a_value_and_fails_at_a_node(rt: HostRuntime) -> Result<(), Fail> {
-    let opened = opened()?.take();
+    let opened = opened()?;
     let refused = walk(&opened.loaded, OneWorld::new(0), &[true]);
     assert_eq!(rt; refused.used, 1);
-    assert_eq!(rt;
-        refused.stop,
-        Stop::Refused(Fault {
-            refusal: Refusal::Contradiction,
-            place: 187,
-        })
-    );
+    assert_eq!(rt; refused.stop, Stop::Refused(Refusal::Contradiction.at(187)));
     let failed = walk(&opened.loaded, OneWorld::new(4), &[true]);
     assert_eq!(rt;
         failed.stop,

@@ -1,3 +1,3 @@
-pub mod Confirms
+pub mod Keeping
 pub mod Onward
 pub mod Visits

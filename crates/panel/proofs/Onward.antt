@@ -1,8 +1,12 @@
 -- From node to node of an armed run the plan holds. Assumes nothing.
-use Rattle.std.proofs.Common.{◌≡◌, ℕ, ◌+◌, Bool, true, false, List, Some, Ok, sym, refl, ap, ◌∙◌, subst, inl, inr, arith}
+use Rattle.std.proofs.Common.{◌≡◌, ℕ, ◌+◌, ◌<◌, Bool, true, false, List, length, Some, Ok, sym, refl, ap, ◌∙◌, subst, inl, inr, arith}
+use mathlib.Core.Logic.{∥∥₁_elim}
+use native.Mathlib.Bridge.{le_prop}
+use native.Mathlib.Nat.{ℕ_set}
 use Rattle.knowledge.specs.Meaning.{Same}
 use Rattle.knowledge.specs.declared.states.Row.{Row}
 use Rattle.plans.specs.Trees.{Plan, finish, act, ask, gap, past, NodeAt}
+use Rattle.plans.proofs.Codes.{some_bytes}
 use Rattle.plans.proofs.Places.{node_rest, node_true, node_false}
 use Rattle.procedure.specs.Procedures.{Act, reading, Procedure, procedure_of}
 use Rattle.meaning.specs.Follows.{Follows}
@@ -18,7 +22,8 @@ use Rattle.runs.specs.declared.run.Run.{Run}
 use Rattle.runs.specs.declared.run.Step.{Step}
 use Rattle.runs.specs.declared.run.Step.TheVariants.{Did, Asks, Ended, Failed}
 use Rattle.runs.proofs.Ahead.{failed_follows}
-use Rattle.runs.proofs.Along.{doing_tree, reading_tree, at_doing, at_asking, asking_node}
+use Rattle.runs.proofs.Along.{doing_tree, reading_tree, at_doing, at_asking, asking_node, branch_further}
+use Rattle.runs.proofs.Room.{room}
 use Rattle.panel.specs.Cases.{worlds_in}
 use Rattle.panel.specs.Ready.{Ready, Asked}
 use Rattle.panel.specs.declared.known.Known.{Known}
@@ -60,6 +65,10 @@ module _ (file : List ℕ) (run : Run Known) where
             (follows_same p.goal (steps_of p.actions (run.place + 2) d.rest) (Moved d.add d.del K) (worlds_in next.knowledge) (same_sym _ _ d.knows) Holds after);
       }
 
+  pub did_onward : (a : ℕ) (next : Run Known) → StepsTo file run (Did a next) → ∥ Ready file run ∥₁ → run.place < next.place
+  did_onward a next step ready =
+      ∥∥₁_elim ready le_prop (λ r. omega (arith, (at_doing worlds_in r.p.goal r.p.actions run.place run.knowledge r.q a next (step r.p r.is r.q r.at)).there))
+
   pub ready_asks : (x : Pending Known) → StepsTo file run (Asks x) → Ready file run → Asked file x
   ready_asks x step r =
       let p = r.p in
@@ -79,6 +88,14 @@ module _ (file : List ℕ) (run : Run Known) where
         on_false = subst (λ (j : ℕ). Possible (Told x.fluent.index false (worlds_in x.knowledge)) → Follows p.goal (steps_of p.actions (past (j + 2) a.t) a.e) (Told x.fluent.index false (worlds_in x.knowledge)) Holds) (sym a.there)
             (subst (λ k. Possible (Told x.fluent.index false (worlds_in k)) → Follows p.goal (steps_of p.actions (past (run.place + 2) a.t) a.e) (Told x.fluent.index false (worlds_in k)) Holds) (sym a.knows) both.1);
       }
+
+  pub asks_onward : (x : Pending Known) → StepsTo file run (Asks x) → ∥ Ready file run ∥₁ → x.place ≡ run.place
+  asks_onward x step ready =
+      ∥∥₁_elim ready (ℕ_set _ _) (λ r. (at_asking worlds_in r.p.goal r.p.actions run.place run.knowledge r.q x (step r.p r.is r.q r.at)).there)
+
+  -- the run stands within its file
+  pub stands_within : ∥ Ready file run ∥₁ → run.place < length file
+  stands_within ready = ∥∥₁_elim ready le_prop (λ r. omega (arith, some_bytes r.q, room file r.p r.is run.place r.q r.at))
 
   pub ready_fails_not : (place : ℕ) (cause : Cause) → StepsTo file run (Failed place cause) → Ready file run → ⊥
   ready_fails_not place cause step r =
@@ -129,11 +146,17 @@ module _ (goal : Row) (acts : List Act) (i : ℕ) (k : Known) where
   asks_at (ask a t e) x (c, f, found, inr h) = let z : ◌≡◌ {A = ℕ} 0 1 = cc h.1 in absurd (omega arith)
   asks_at gap x h = let z : ◌≡◌ {A = ℕ} 0 1 = cc h in absurd (omega arith)
 
+-- what settling says of the place
+abbrev pub Goes : List ℕ → Pending Known → Bool → Run Known → Type 0
+Goes file x v run = (p : Procedure) → procedure_of file ≡ Ok p → (a : ℕ) (t e : Plan) → NodeAt p.place p.plan x.place (ask a t e) → run.place ≡ branch x.place v t
+
+pub settled_onward : (file : List ℕ) (x : Pending Known) (v : Bool) (run : Run Known) → Goes file x v run → ∥ Asked file x ∥₁ → x.place < run.place
+settled_onward file x v run goes asked = ∥∥₁_elim asked le_prop (λ a. omega (arith, goes a.p a.is a.a a.t a.e a.at, branch_further x.place v a.t))
+
 -- a reading that was settled leads to a run that is ready
 pub settled_ready : (file : List ℕ) (x : Pending Known) (v : Bool) (run : Run Known) → Possible (Told x.fluent.index v (worlds_in x.knowledge))
     → Same (worlds_in run.knowledge) (Told x.fluent.index v (worlds_in x.knowledge))
-    → ((p : Procedure) → procedure_of file ≡ Ok p → (a : ℕ) (t e : Plan) → NodeAt p.place p.plan x.place (ask a t e) → run.place ≡ branch x.place v t)
-    → Asked file x → Ready file run
+    → Goes file x v run → Asked file x → Ready file run
 settled_ready file x true run some same goes a =
     let p = a.p in
     let there = goes p a.is a.a a.t a.e a.at in

@@ -40,14 +40,8 @@ impl Knowledge for Known {
 
     fn learn(self, literal: Literal) -> Result<Known, Fault> {
         match self {
-            Known::Partial(state) => match state.learn(literal) {
-                Ok(learned) => Ok(Known::Partial(learned)),
-                Err(fault) => Err(fault),
-            },
-            Known::Worlds(list) => match list.learn(literal) {
-                Ok(learned) => Ok(Known::Worlds(learned)),
-                Err(fault) => Err(fault),
-            },
+            Known::Partial(state) => Ok(Known::Partial(state.learn(literal)?)),
+            Known::Worlds(list) => Ok(Known::Worlds(list.learn(literal)?)),
         }
     }
 }

@@ -4,6 +4,7 @@
 pub mod answers;
 pub mod armed;
 pub mod known;
+pub mod permitted;
 pub mod reading;
 #[cfg(test)]
 mod tests;

@@ -1,17 +1,20 @@
+use crate::answers::Rejection;
 use crate::armed::Armed;
 use crate::known::Known;
-use crate::visit::{Visited, visit};
-use fluents::faults::{Fault, Refusal};
+use crate::visit::visit;
+use fluents::faults::Refusal;
 use frames::selected::Selected;
 use knowledge::states::PartialState;
 use knowledge::worlds::WorldList;
 use meaning::answers::{Cause, Stop};
 use procedure::loaded::Loaded;
+use runs::walk::Walked;
 use std::process::Abort;
 use std::test::Fail;
 
 // Fluent 2 is read: where it is true, action 0 (which needs fluent 0) makes fluent 1 true, the goal; where it is false,
 // action 1 (which needs fluent 0 false) makes fluent 0 true before that. The reading stands at place 187, the true branch at 189.
+// Each crate has its own copy, since tests cannot use another crate's tests.
 const FILE: &[u8; 221] = b"\
 \x11\x00\x01\x00\x03\x02\x00\x00\x00\x00\x00\x00\x00\x00\x00\x00\x00\x00\x00\x00\x00\x17\x00\
 \x20\x00\x02\x00\x01\x00\x00\x00\x00\x00\x00\x00\x00\x00\x00\x00\x00\x00\x00\x00\x02\x00\x00\x00\x00\x00\x00\x00\x00\x00\x00\x00\x00\x00\x00\x00\x25\x00\
@@ -23,14 +26,19 @@ const FILE: &[u8; 221] = b"\
 \x10\x00\x05\x00\x00\x00\x00\x00\x00\x00\x00\x00\x02\x00\x00\x00\x00\x00\x00\x00\x17\x00";
 
 // A visit of the file's procedure: how it came out, and that the word came back.
-fn visited(rt: &impl Abort, start: Known, before: u32, readings: &[bool]) -> Result<Visited, Fail> {
-    let selected = Selected::select(FILE)?.take();
+fn visited(
+    rt: &impl Abort,
+    start: Known,
+    before: u32,
+    readings: &[bool],
+) -> Result<Result<Walked, Rejection>, Fail> {
+    let selected = Selected::select(FILE)?;
     let mut list = WorldList::single(0);
     let Ok(opened) = Loaded::load(selected, &mut list) else {
         return Err(Fail::new("not loaded"));
     };
     let mut word = before;
-    let finished = visit(opened.take().loaded, start, &mut word, readings);
+    let finished = visit(opened.loaded, start, &mut word, readings);
     assert_eq!(rt; *finished.word, before);
     Ok(finished.visited)
 }
@@ -44,13 +52,10 @@ fn stops(
     used: usize,
 ) -> Result<(), Fail> {
     for before in [0, 1, u32::MAX] {
-        match visited(rt, start, before, readings)? {
-            Visited::Unarmed { fault: _, cause: _ } => return Err(Fail::new("not armed")),
-            Visited::Ran(walked) => {
-                assert_eq!(rt; walked.stop, stop);
-                assert_eq!(rt; walked.used, used);
-            }
-        }
+        assert_eq!(rt;
+            visited(rt, start, before, readings)?,
+            Ok(Walked { stop, used })
+        );
     }
     Ok(())
 }
@@ -70,15 +75,11 @@ fn a_run_ends_well(rt: HostRuntime) -> Result<(), Fail> {
 
 #[test]
 fn a_value_that_no_world_has_ends_the_run(rt: HostRuntime) -> Result<(), Fail> {
-    let fault = Fault {
-        refusal: Refusal::Contradiction,
-        place: 187,
-    };
     stops(
         &rt,
         Known::Partial(PartialState::new(0, 5)?),
         &[true],
-        Stop::Refused(fault),
+        Stop::Refused(Refusal::Contradiction.at(187)),
         1,
     )
 }
@@ -97,33 +98,24 @@ fn a_reading_without_a_value_is_withdrawn(rt: HostRuntime) -> Result<(), Fail> {
 #[test]
 fn a_start_from_which_the_plan_fails_is_not_armed(rt: HostRuntime) -> Result<(), Fail> {
     for before in [0, 1, u32::MAX] {
-        match visited(&rt, Known::Partial(PartialState::new(0, 2)?), before, &[])? {
-            Visited::Ran(_) => return Err(Fail::new("armed")),
-            Visited::Unarmed { fault, cause } => {
-                assert_eq!(rt; cause, Cause::UnmetConditions);
-                assert_eq!(rt;
-                    fault,
-                    Fault {
-                        refusal: Refusal::VerdictFails,
-                        place: 189,
-                    }
-                );
-            }
-        }
+        let visited = visited(&rt, Known::Partial(PartialState::new(0, 2)?), before, &[])?;
+        let fault = Refusal::VerdictFails.at(189);
+        let cause = Cause::UnmetConditions;
+        assert_eq!(rt; visited, Err(Rejection { fault, cause }));
     }
     Ok(())
 }
 
 // The word while a run is armed, and after the run was given up.
 fn given_up(rt: &impl Abort, before: u32) -> Result<(), Fail> {
-    let selected = Selected::select(FILE)?.take();
+    let selected = Selected::select(FILE)?;
     let mut list = WorldList::single(0);
     let Ok(opened) = Loaded::load(selected, &mut list) else {
         return Err(Fail::new("not loaded"));
     };
     let mut word = before;
     let start = Known::Worlds(WorldList::single(0));
-    let Ok(armed) = Armed::arm(opened.take().loaded, start, &mut word) else {
+    let Ok(armed) = Armed::arm(opened.loaded, start, &mut word) else {
         return Err(Fail::new("not armed"));
     };
     let raised = armed.word();

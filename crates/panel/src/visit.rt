@@ -1,34 +1,63 @@
 // A whole visit along a list of readings.
 ghost use Rattle.std.specs.Prelude.{◌≡◌, List, Ok};
-ghost use Rattle.knowledge.specs.declared.states.Row.{Row};
-ghost use Rattle.meaning.specs.Laws.{CoveredBy};
-ghost use Rattle.meaning.specs.Rows.{rows_of};
+ghost use Rattle.meaning.specs.Laws.{IfCovered};
 ghost use Rattle.meaning.specs.Steps.{tree_of};
-ghost use Rattle.procedure.specs.Procedures.{Procedure, procedure_of};
+ghost use Rattle.meaning.specs.Walks.{Walks};
 ghost use Rattle.panel.specs.Cases.{worlds_in};
+ghost use Rattle.panel.specs.Confirming.{GivenBack};
 ghost use Rattle.panel.specs.Visiting.{VisitedAs, CoveredVisit};
+ghost use Rattle.procedure.specs.Asked.{IfLoads};
 
-use crate::answers::{Confirmed, Denied, Over, Settled};
+use crate::answers::{Confirmed, Denied, Over, Rejection};
 use crate::armed::Armed;
-use crate::armed::keys::Unarmed;
 use crate::known::Known;
-use fluents::faults::Fault;
-use meaning::answers::{Cause, Stop};
+use meaning::answers::Stop;
 use procedure::loaded::Loaded;
 use runs::walk::Walked;
 
-// What a visit came to: Arm was refused, or the run was the walk that stopped so.
-#[derive(Clone, Copy)]
-pub enum Visited {
-    Unarmed { fault: Fault, cause: Cause },
-    Ran(Walked),
-}
-
-// The visit and the word, which is given back as it was lent.
+// The visit, which came to the walk or was rejected by Arm, and the word, which is given back as it was lent.
 #[derive(Drop)]
 pub struct Finished<'w> {
-    pub visited: Visited,
+    pub visited: Result<Walked, Rejection>,
     pub word: &'w mut u32,
+}
+
+// Confirms a run along the readings until it has ended; a reading for which no value is left is withdrawn.
+fn confirm_along<'f, 'w>(armed: Armed<'f, 'w>, readings: &[bool]) -> (Walked, Over<'f, 'w>)
+    ensures walk { IfLoads armed.entry.permitted.loaded.value (λ p. armed.entry.run.place ≡ p.place → Walks p.goal (tree_of p) (worlds_in armed.entry.run.knowledge) readings.now result.0.used result.0.stop) }
+    ensures back { GivenBack armed.entry.permitted result.1 }
+{
+    let mut armed = armed;
+    let mut left = readings;
+    loop {
+        let used = readings.len() - left.len();
+        match armed.confirm() {
+            Confirmed::Did {
+                number: _,
+                armed: next,
+            } => armed = next,
+            Confirmed::Reads(reading) => {
+                let Some((value, rest)) = left.split_first() else {
+                    let place = reading.place();
+                    let stop = Stop::UsedUp { place };
+                    return (Walked { stop, used }, reading.withdraw());
+                };
+                left = rest;
+                match reading.settle(*value) {
+                    Ok(next) => armed = next,
+                    Err(Denied { over, fault }) => {
+                        let stop = Stop::Refused(fault);
+                        let used = used + 1;
+                        return (Walked { stop, used }, over);
+                    }
+                }
+            }
+            Confirmed::Ended(over) => {
+                let stop = Stop::EndedWell;
+                return (Walked { stop, used }, over);
+            }
+        }
+    }
 }
 
 // Arms the procedure, and confirms along the readings; a reading for which no value is left is withdrawn. The run is the
@@ -39,62 +68,17 @@ pub fn visit<'f, 'w>(
     word: &'w mut u32,
     readings: &[bool],
 ) -> Finished<'w>
-    ensures value { (p : Procedure) → procedure_of loaded.entry.file.now ≡ Ok p → VisitedAs p start readings.now result.visited }
+    ensures value { IfLoads loaded.entry (λ p. VisitedAs p start readings.now result.visited) }
     ensures word { (result.word.ghost_name ≡ word.entry.ghost_name) × (result.word.now ≡ word.old) }
-    ensures covered { (p : Procedure) → procedure_of loaded.entry.file.now ≡ Ok p → (rs : List Row) → rows_of p.goal (tree_of p) ≡ Ok rs → CoveredBy rs (worlds_in start) → CoveredVisit p start readings.now result.visited }
+    ensures covered { IfLoads loaded.entry (λ p. IfCovered p (worlds_in start) (CoveredVisit p start readings.now result.visited)) }
 {
-    let mut armed = match Armed::arm(loaded, start, word) {
-        Ok(armed) => armed,
-        Err(unarmed) => {
-            let Unarmed {
-                loaded: _,
-                start: _,
-                word,
-                fault,
-                cause,
-            } = unarmed;
-            let visited = Visited::Unarmed { fault, cause };
-            return Finished { visited, word };
+    let (visited, over) = match Armed::arm(loaded, start, word) {
+        Ok(armed) => {
+            let (walked, over) = confirm_along(armed, readings);
+            (Ok(walked), over)
         }
+        Err(unarmed) => (Err(unarmed.why), unarmed.over),
     };
-    let mut used = 0;
-    loop {
-        match armed.confirm() {
-            Confirmed::Did {
-                number: _,
-                armed: next,
-            } => armed = next,
-            Confirmed::Reads(reading) => {
-                if used >= readings.len() {
-                    let stop = Stop::UsedUp {
-                        place: reading.place(),
-                    };
-                    let Over { loaded: _, word } = reading.withdraw();
-                    let visited = Visited::Ran(Walked { stop, used });
-                    return Finished { visited, word };
-                }
-                let value = readings[used];
-                used += 1;
-                match reading.settle(value) {
-                    Settled::Goes(next) => armed = next,
-                    Settled::Refused(denied) => {
-                        let Denied {
-                            loaded: _,
-                            word,
-                            fault,
-                        } = denied;
-                        let stop = Stop::Refused(fault);
-                        let visited = Visited::Ran(Walked { stop, used });
-                        return Finished { visited, word };
-                    }
-                }
-            }
-            Confirmed::Ended(over) => {
-                let Over { loaded: _, word } = over;
-                let stop = Stop::EndedWell;
-                let visited = Visited::Ran(Walked { stop, used });
-                return Finished { visited, word };
-            }
-        }
-    }
+    let Over { loaded: _, word } = over;
+    Finished { visited, word }
 }

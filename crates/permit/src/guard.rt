@@ -3,7 +3,7 @@ ghost use Rattle.std.specs.Prelude.{◌≡◌, ℕ, true, ◌≢◌};
 ghost use Rattle.fluents.specs.Sets.{bit};
 ghost use Rattle.permit.specs.Words.{bit_zero, raised, lowered};
 
-use super::Permit;
+use super::{Permit, restore};
 
 impl<'w> Permit<'w> {
     // Sets bit 0 of the word, and holds the word.
@@ -32,9 +32,7 @@ impl<'w> Permit<'w> {
         ensures { (result.ghost_name ≡ self.entry.word.ghost_name) × (result.now ≡ lowered self.entry.earlier self.entry.word.now) }
     {
         let Permit { word, earlier } = self;
-        if !earlier {
-            *word ^= *word & 1;
-        }
+        restore(word, earlier);
         word
     }
 }

@@ -21,8 +21,15 @@ impl Drop for Permit<'_> {
         ensures { self.exit.0.now ≡ lowered self.entry.earlier self.entry.word.now }
     {
         let Permit { word, earlier } = self;
-        if !earlier {
-            *word ^= *word & 1;
-        }
+        restore(word, earlier);
+    }
+}
+
+// Clears bit 0, unless it was set earlier.
+fn restore(word: &mut u32, earlier: bool)
+    ensures { word.new ≡ lowered earlier word.old }
+{
+    if !earlier {
+        *word ^= *word & 1;
     }
 }

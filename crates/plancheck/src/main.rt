@@ -1,9 +1,10 @@
 // Reads a procedure file from standard input, and prints the verdict at its start and its rows, or a refusal.
 #![tactic(auto)]
 
-ghost use Rattle.std.specs.Prelude.{◌≡◌, ◌≤◌, IfOk, IfSome, take, vec_len};
+ghost use Rattle.std.specs.Prelude.{IfOk};
+ghost use Rattle.intake.specs.Starts.{IsStart};
 
-use intake::first_bytes;
+use intake::{exit_code, first_bytes};
 use std::alloc::Global;
 use std::io;
 use std::io::Read;
@@ -13,10 +14,10 @@ use verdicts::text::text;
 // The most bytes that a file is taken to have; what the input has after them is not read.
 const FILE_LIMIT: usize = 65536;
 
-// The whole input, or its first bytes up to the limit.
+// The whole input, or its first bytes up to the limit. It stands here, and not in
+// `intake`, so that the contract fixes this program's limit.
 fn read_file<R: Read + Drop>(heap: Global, input: R) -> io::Result<Vec<u8>>
-    ensures limit { IfOk result (λ file. vec_len file ≤ 65536) }
-    ensures bytes { IfOk result (λ file. IfSome (R.remaining input) (λ xs. file.items ≡ take 65536 xs)) }
+    ensures { IfOk result (λ file. IsStart 65536 (R.remaining input) file.items) }
 {
     first_bytes(heap, input, FILE_LIMIT)
 }
@@ -24,18 +25,11 @@ fn read_file<R: Read + Drop>(heap: Global, input: R) -> io::Result<Vec<u8>>
 // Reads the file, and prints the text of the report on it.
 fn run(rt: &HostRuntime) -> io::Result<()> {
     let file = read_file(rt.alloc(), rt.stdin())?;
-    let report = verdicts::report(file.as_slice());
-    let text = text(rt.alloc(), &report)?;
+    let text = text(rt.alloc(), &verdicts::report(file.as_slice()))?;
     print!(rt; "{text}")
 }
 
 // An error of reading, memory or printing ends the program with status 1 and a message.
 fn main(rt: HostRuntime) -> ExitCode {
-    match run(&rt) {
-        Ok(()) => ExitCode::SUCCESS,
-        Err(e) => {
-            let _ = eprintln!(rt; "plancheck: {e}");
-            ExitCode::FAILURE
-        }
-    }
+    exit_code(&rt, "plancheck", run(&rt))
 }

@@ -1,6 +1,7 @@
 -- The check of a plan's bytes, and the trees that they spell. Assumes nothing.
 use Rattle.std.proofs.Common.{◌≡◌, ℕ, zero, suc, ◌+◌, ◌-◌, ◌<◌, ◌≤◌, Bool, cond, eqb, ltb, List, [], ◌∷◌, ◌++◌, length, get_or, drop, Ok, Err, Result, sym, refl, ap, ◌∙◌, subst, inl, inr, append_assoc, append-nil, arith, length-append, length-drop, le-ltb, eq-eqb, ne_eqb, eqb-true, MatchResult}
 use borrow.Author.Tests.{eqb-false}
+use Rattle.std.proofs.lemmas.Bool.{cond_both}
 use Rattle.std.proofs.lemmas.List.{drop_all, drop_more}
 use Rattle.std.proofs.lemmas.Result.{MatchResult-at_ok, MatchResult-at_err}
 use Rattle.plans.specs.Trees.{Plan, finish, act, ask, gap, encode, past, Fits, Spells}
@@ -9,7 +10,7 @@ use Rattle.plans.specs.Flaws.{Flawed, no_byte, no_kind, no_action, not_doing, no
 use Rattle.plans.specs.declared.Flaw.{Flaw}
 use Rattle.plans.specs.declared.Node.{Node}
 use Rattle.plans.specs.declared.Node.TheVariants.{End, Doing, Reading, Gap}
-use Rattle.plans.proofs.Nodes.{by_test, Spelled, spelled, node_none, node_end, node_gap, node_doing, node_reading, node_short_doing, node_short_reading, node_other, node_is_doing, node_is_reading}
+use Rattle.plans.proofs.Nodes.{Spelled, spelled, node_none, node_other, node_is_doing, node_is_reading}
 use Rattle.plans.proofs.Codes.{some_bytes}
 use Rattle.plans.proofs.Places.{rest_two, long_one, long_two, rest_stands, true_stands, false_stands, fits_rest, fits_both}
 
@@ -125,7 +126,8 @@ module _ (doing reading : ℕ → Bool) where
 
   -- The bytes of a plan within the limits give that plan, whatever bytes follow.
   pub complete : (p : Plan) (s : List ℕ) (i d : ℕ) (rest : List ℕ) → Fits doing reading d p → drop i s ≡ encode p ++ rest → plan_at doing reading s i d ≡ Ok (p, past i p)
-  complete finish s i d rest f e = at_node s i d End (node_end doing reading s i d rest e)
+  unfolding node_of
+  complete finish s i d rest f e = at_node s i d End (ap (node_of doing reading i d) e)
   complete (act a p) s i d rest f e =
       let sub = fits_rest doing reading d a p f in
       at_node s i d (Doing a) (node_is_doing doing reading s i d a (_, e) sub.0)
@@ -139,26 +141,26 @@ module _ (doing reading : ℕ → Bool) where
       ∙ ap (λ x. next x (λ t. Ok (ask a p t.0, t.1)))
       (complete q s (past (i + 2) p) (d + 1) rest sub.3 (false_stands s i a rest p q e))
       ∙ ap (λ (j : ℕ). Ok (ask a p q, j)) (omega (arith, length-append (encode p) (encode q)))
-  complete gap s i d rest f e = at_node s i d Gap (node_gap doing reading s i d rest e)
+  complete gap s i d rest f e = at_node s i d Gap (ap (node_of doing reading i d) e)
 
   -- A refusal by the rules is the one that the definition gives.
   pub flaw_found : (s : List ℕ) (e : Flaw) {i d : ℕ} → Flawed doing reading s e i d → plan_at doing reading s i d ≡ Err e
   unfolding node_of
-  flaw_found s e {i} {d} (no_byte h q) = at_flaw s i d e (ap (λ (l : List ℕ). node_of doing reading i d l) h ∙ ap Err (sym q))
+  flaw_found s e {i} {d} (no_byte h q) = at_flaw s i d e (ap (node_of doing reading i d) h ∙ ap Err (sym q))
   flaw_found s e {i} {d} (no_kind b h more q) =
       at_flaw s i d e (node_other doing reading s i d b _ (omega arith) (omega arith) (omega arith) (omega arith) h.1 ∙ ap Err (sym q))
   flaw_found s e {i} {d} (no_action b h (inl is) q) =
-      at_flaw s i d e (node_short_doing doing reading s i d (h ∙ ap (λ (x : ℕ). x ∷ []) is) ∙ ap Err (sym q))
+      at_flaw s i d e (ap (node_of doing reading i d) (h ∙ ap (λ (x : ℕ). x ∷ []) is) ∙ ap Err (sym q))
   flaw_found s e {i} {d} (no_action b h (inr is) q) =
-      at_flaw s i d e (node_short_reading doing reading s i d (h ∙ ap (λ (x : ℕ). x ∷ []) is) ∙ ap Err (sym q))
+      at_flaw s i d e (ap (node_of doing reading i d) (h ∙ ap (λ (x : ℕ). x ∷ []) is) ∙ ap Err (sym q))
   flaw_found s e {i} {d} (not_doing a h k q) =
-      at_flaw s i d e (node_doing doing reading s i d a _ h.1 ∙ ap (λ t. cond t (Ok (Doing a)) (Err (bad i))) k ∙ ap Err (sym q))
+      at_flaw s i d e (ap (node_of doing reading i d) h.1 ∙ ap (λ t. cond t (Ok (Doing a)) (Err (bad i))) k ∙ ap Err (sym q))
   flaw_found s e {i} {d} (not_reading a h k q) =
       at_flaw s i d e
-      (node_reading doing reading s i d a _ h.1 ∙ ap (λ t. cond t (cond (ltb d 8) (Ok (Reading a)) (Err (deep i))) (Err (bad i))) k ∙ ap Err (sym q))
+      (ap (node_of doing reading i d) h.1 ∙ ap (λ t. cond t (cond (ltb d 8) (Ok (Reading a)) (Err (deep i))) (Err (bad i))) k ∙ ap Err (sym q))
   flaw_found s e {i} {d} (ninth a h k high q) =
       at_flaw s i d e
-      (node_reading doing reading s i d a _ h.1
+      (ap (node_of doing reading i d) h.1
       ∙ ap (λ t. cond t (cond (ltb d 8) (Ok (Reading a)) (Err (deep i))) (Err (bad i))) k
       ∙ ap (λ t. cond t (Ok (Reading a)) (Err (deep i))) (le-ltb d 8 high)
       ∙ ap Err (sym q))
@@ -201,7 +203,7 @@ module _ (doing reading : ℕ → Bool) where
       (sound (length s - 0) s 0 0 (omega arith) (omega arith))
       (λ e f. met f)
       (λ x w.
-      by_test (λ r. MatchResult r (Spells doing reading s) (Refused doing reading s)) (eqb x.1 (length s)) _ _
+      cond_both (eqb x.1 (length s)) _ _ (λ r. MatchResult r (Spells doing reading s) (Refused doing reading s))
       (λ t.
       let end = eqb-true x.1 (length s) t in
       (w.fits, w.spells ∙ ap (λ (l : List ℕ). encode x.0 ++ l) (drop_all x.1 s (omega arith)) ∙ append-nil (encode x.0)))

@@ -1,112 +1,61 @@
--- What each way through `subplan` and `check` answers. Assumes nothing.
-use Rattle.std.proofs.Common.{◌≡◌, ℕ, ◌+◌, ◌-◌, ◌<◌, ◌≤◌, Bool, true, cond, eqb, ◌⊎◌, List, length, drop, is_ok, IfErr, Ok, Err, Result, sym, refl, ap, ◌∙◌, subst, inl, inr, arith, eq-eqb, ne_eqb}
+-- Where a plan ends, and what the check of it answers. Assumes nothing.
+use Rattle.std.proofs.Common.{◌≡◌, ℕ, ◌+◌, Bool, true, false, cond, eqb, List, length, drop, is_ok, IfErr, Ok, Err, Result, sym, refl, ap, ◌∙◌, subst}
 use mathlib.Core.Bool.{false≢true}
-use Rattle.std.proofs.lemmas.Result.{MatchResult-at_ok}
 use Rattle.plans.specs.Trees.{Plan, act, ask, Spells}
-use Rattle.plans.specs.Checks.{bad, next, node_of, plan_at, plan_of, ending, verdict}
-use Rattle.plans.specs.Flaws.{Flawed, Refused, Placed}
+use Rattle.plans.specs.Checks.{bad, next, follow, node_of, plan_at, plan_of, ending, verdict}
+use Rattle.plans.specs.Flaws.{Refused, Placed}
 use Rattle.plans.specs.declared.Flaw.{Flaw}
 use Rattle.plans.specs.declared.Node.{Node}
 use Rattle.plans.specs.declared.Node.TheVariants.{End, Doing, Reading, Gap}
-use Rattle.plans.proofs.Nodes.{node_spelled}
-use Rattle.plans.proofs.Places.{long_one, long_two}
-use Rattle.plans.proofs.Parses.{Stands, stands_within, sound, at_node, at_flaw, plan_complete, plan_flaw, plan_spells, plan_refused, refused_placed}
+use Rattle.plans.proofs.Parses.{unrolled, plan_complete, plan_flaw, plan_spells, plan_refused, refused_placed}
 
--- a plan that ends before j, or a refusal, from what the code keeps of it
-ended : (x : Result (Plan × ℕ) Flaw) (j : ℕ) → Ok j ≡ ending x → (p : Plan) × (x ≡ Ok (p, j))
-ended (Ok r) j e = let q : j ≡ r.1 = cc e in (r.0, ap (λ (k : ℕ). Ok (r.0, k)) (sym q))
-ended (Err f) j e = let z : ◌≡◌ {A = ℕ} 0 1 = cc e in absurd (omega arith)
+-- ---- where a plan ends, by the node that is read at its first byte, at offset i below d readings
 
-flawed : (x : Result (Plan × ℕ) Flaw) (f : Flaw) → Err f ≡ ending x → x ≡ Err f
-flawed (Ok r) f e = let z : ◌≡◌ {A = ℕ} 0 1 = cc e in absurd (omega arith)
-flawed (Err g) f e = let q : f ≡ g = cc e in ap Err (sym q)
-
--- a plan ends where its last part does
-ending_act : (a : ℕ) (x : Result (Plan × ℕ) Flaw) → ending x ≡ ending (next x (λ r. Ok (act a r.0, r.1)))
-ending_act a (Ok r) = refl
-ending_act a (Err f) = refl
-
-ending_ask : (a : ℕ) (p : Plan) (x : Result (Plan × ℕ) Flaw) → ending x ≡ ending (next x (λ r. Ok (ask a p r.0, r.1)))
-ending_ask a p (Ok r) = refl
-ending_ask a p (Err f) = refl
-
--- ---- the plan at offset i, below d readings, by the node that was read there
+-- a node put before a plan leaves the place where the plan ends
+same_ending : (x : Result (Plan × ℕ) Flaw) (f : Plan → Plan) → ending (next x (λ r. Ok (f r.0, r.1))) ≡ ending x
+same_ending (Ok r) f = refl
+same_ending (Err e) f = refl
 
 module _ (doing reading : ℕ → Bool) (s : List ℕ) (i d : ℕ) where
-  pub flawed_node : (f : Flaw) → Err f ≡ node_of doing reading i d (drop i s) → Err f ≡ ending (plan_at doing reading s i d)
-  flawed_node f read = sym (ap ending (at_flaw doing reading s i d f (sym read)))
+  abbrev behind : Node → Result ℕ Flaw
+  behind End = Ok (i + 1)
+  behind (Doing a) = ending (plan_at doing reading s (i + 2) d)
+  behind (Reading a) = next (ending (plan_at doing reading s (i + 2) (d + 1))) (λ j. ending (plan_at doing reading s j (d + 1)))
+  behind Gap = Ok (i + 1)
 
-module _ (doing reading : ℕ → Bool) (s : List ℕ) (i d : ℕ) (n : Node) (read : Ok n ≡ node_of doing reading i d (drop i s)) where
-  -- an end or a gap
-  pub room_leaf : (n ≡ End) ⊎ (n ≡ Gap) → i + 1 ≤ length s
-  room_leaf (inl is) = long_one s i 0 _ (node_spelled doing reading s i d End (sym read ∙ ap Ok is))
-  room_leaf (inr is) = long_one s i 3 _ (node_spelled doing reading s i d Gap (sym read ∙ ap Ok is))
+  ending_both : (a : ℕ) (x : Result (Plan × ℕ) Flaw)
+      → ending (next x (λ r. next (plan_at doing reading s r.1 (d + 1)) (λ t. Ok (ask a r.0 t.0, t.1)))) ≡ next (ending x) (λ j. ending (plan_at doing reading s j (d + 1)))
+  ending_both a (Ok r) = same_ending (plan_at doing reading s r.1 (d + 1)) (ask a r.0)
+  ending_both a (Err e) = refl
 
-  pub past_leaf : (n ≡ End) ⊎ (n ≡ Gap) → Ok (i + 1) ≡ ending (plan_at doing reading s i d)
-  past_leaf (inl is) = sym (ap ending (at_node doing reading s i d End (sym read ∙ ap Ok is)))
-  past_leaf (inr is) = sym (ap ending (at_node doing reading s i d Gap (sym read ∙ ap Ok is)))
+  ending_node : (n : Node) → ending (follow (plan_at doing reading s) i d n) ≡ behind n
+  ending_node End = refl
+  ending_node (Doing a) = same_ending (plan_at doing reading s (i + 2) d) (act a)
+  ending_node (Reading a) = ending_both a (plan_at doing reading s (i + 2) (d + 1))
+  ending_node Gap = refl
 
-  -- a doing node
-  pub room_doing : (a : ℕ) → n ≡ Doing a → i + 2 ≤ length s
-  room_doing a is = long_two s i 1 a _ (node_spelled doing reading s i d (Doing a) (sym read ∙ ap Ok is)).0
+  ending_read : (x : Result Node Flaw) → ending (next x (follow (plan_at doing reading s) i d)) ≡ next x behind
+  ending_read (Ok n) = ending_node n
+  ending_read (Err e) = refl
 
-  pub past_doing : (a : ℕ) → n ≡ Doing a → ending (plan_at doing reading s (i + 2) d) ≡ ending (plan_at doing reading s i d)
-  past_doing a is = ending_act a (plan_at doing reading s (i + 2) d) ∙ sym (ap ending (at_node doing reading s i d (Doing a) (sym read ∙ ap Ok is)))
-
-  -- a reading node, its plan for true, and its plan for false at the offset j
-  pub room_reading : (a : ℕ) → n ≡ Reading a → (i + 2 ≤ length s) × (d < 8)
-  room_reading a is =
-      let h = node_spelled doing reading s i d (Reading a) (sym read ∙ ap Ok is) in
-      (long_two s i 2 a _ h.0, h.2)
-
-  onward : (a : ℕ) → n ≡ Reading a → (x : Result (Plan × ℕ) Flaw) → plan_at doing reading s (i + 2) (d + 1) ≡ x
-      → plan_at doing reading s i d ≡ next x (λ r. next (plan_at doing reading s r.1 (d + 1)) (λ t. Ok (ask a r.0 t.0, t.1)))
-  onward a is x e =
-      at_node doing reading s i d (Reading a) (sym read ∙ ap Ok is)
-      ∙ ap (λ y. next y (λ r. next (plan_at doing reading s r.1 (d + 1)) (λ t. Ok (ask a r.0 t.0, t.1)))) e
-
-  pub flawed_true : (a : ℕ) → n ≡ Reading a → (f : Flaw) → Err f ≡ ending (plan_at doing reading s (i + 2) (d + 1)) → Err f ≡ ending (plan_at doing reading s i d)
-  flawed_true a is f h = sym (ap ending (onward a is (Err f) (flawed (plan_at doing reading s (i + 2) (d + 1)) f h)))
-
-  pub further_false : (a : ℕ) → n ≡ Reading a → (j : ℕ) → Ok j ≡ ending (plan_at doing reading s (i + 2) (d + 1)) → i < j
-  unfolding plan_at
-  further_false a is j h =
-      let room = room_reading a is in
-      let p = ended (plan_at doing reading s (i + 2) (d + 1)) j h in
-      let w =
-      MatchResult-at_ok (λ x. Stands doing reading s (i + 2) (d + 1) x.0 x.1) (λ e. Flawed doing reading s e (i + 2) (d + 1)) (p.0, j) p.1
-      (sound doing reading (length s - (i + 2)) s (i + 2) (d + 1) (omega arith) (omega (arith, room.1))) in
-      omega (arith, (stands_within doing reading s (i + 2) (d + 1) p.0 j w).0)
-
-  pub past_false : (a : ℕ) → n ≡ Reading a → (j : ℕ) → Ok j ≡ ending (plan_at doing reading s (i + 2) (d + 1))
-      → ending (plan_at doing reading s j (d + 1)) ≡ ending (plan_at doing reading s i d)
-  past_false a is j h =
-      let p = ended (plan_at doing reading s (i + 2) (d + 1)) j h in
-      ending_ask a p.0 (plan_at doing reading s j (d + 1)) ∙ sym (ap ending (onward a is (Ok (p.0, j)) p.1))
+  pub ending_is : ending (plan_at doing reading s i d) ≡ next (node_of doing reading i d (drop i s)) behind
+  ending_is = ap ending (unrolled doing reading s i d) ∙ ending_read (node_of doing reading i d (drop i s))
 
 -- ---- a whole plan
 
 module _ (doing reading : ℕ → Bool) (s : List ℕ) where
-  pub whole_flawed : (f : Flaw) → Err f ≡ ending (plan_at doing reading s 0 0) → Err f ≡ verdict (plan_of doing reading s)
+  verdict_end : (b : Bool) (p : Plan) (j : ℕ) → verdict (cond b (Ok p) (Err (bad j))) ≡ cond b (Ok tt) (Err (bad j))
+  verdict_end true p j = refl
+  verdict_end false p j = refl
+
+  verdict_read : (x : Result (Plan × ℕ) Flaw)
+      → verdict (next x (λ r. cond (eqb r.1 (length s)) (Ok r.0) (Err (bad r.1)))) ≡ next (ending x) (λ j. cond (eqb j (length s)) (Ok tt) (Err (bad j)))
+  verdict_read (Ok r) = verdict_end (eqb r.1 (length s)) r.0 r.1
+  verdict_read (Err e) = refl
+
+  pub verdict_is : verdict (plan_of doing reading s) ≡ next (ending (plan_at doing reading s 0 0)) (λ j. cond (eqb j (length s)) (Ok tt) (Err (bad j)))
   unfolding plan_of
-  whole_flawed f h =
-      sym (ap verdict (ap (λ x. next x (λ r. cond (eqb r.1 (length s)) (Ok r.0) (Err (bad r.1)))) (flawed (plan_at doing reading s 0 0) f h)))
-
-  ended_at : (j : ℕ) → Ok j ≡ ending (plan_at doing reading s 0 0) → (p : Plan) × (plan_of doing reading s ≡ cond (eqb j (length s)) (Ok p) (Err (bad j)))
-  unfolding plan_of
-  ended_at j h =
-      let p = ended (plan_at doing reading s 0 0) j h in
-      (p.0, ap (λ x. next x (λ r. cond (eqb r.1 (length s)) (Ok r.0) (Err (bad r.1)))) p.1)
-
-  pub whole : (j : ℕ) → Ok j ≡ ending (plan_at doing reading s 0 0) → j ≡ length s → Ok tt ≡ verdict (plan_of doing reading s)
-  whole j h e =
-      let p = ended_at j h in
-      sym (ap verdict (p.1 ∙ ap (λ t. cond t (Ok p.0) (Err (bad j))) (eq-eqb j (length s) e)))
-
-  pub left_over : (j : ℕ) → Ok j ≡ ending (plan_at doing reading s 0 0) → (j ≡ length s → ⊥) → Err (bad j) ≡ verdict (plan_of doing reading s)
-  left_over j h n =
-      let p = ended_at j h in
-      sym (ap verdict (p.1 ∙ ap (λ t. cond t (Ok p.0) (Err (bad j))) (ne_eqb j (length s) n)))
+  verdict_is = verdict_read (plan_at doing reading s 0 0)
 
   -- ---- what the answer says
 
@@ -115,7 +64,7 @@ module _ (doing reading : ℕ → Bool) (s : List ℕ) where
   some_tree (Err f) e h = absurd (false≢true h)
 
   some_flaw : (x : Result Plan Flaw) (f : Flaw) → plan_of doing reading s ≡ x → verdict x ≡ Err f → Refused doing reading s f
-  some_flaw (Ok p) f e h = let z : ◌≡◌ {A = ℕ} 0 1 = cc h in absurd (omega arith)
+  some_flaw (Ok p) f e h = cc h
   some_flaw (Err g) f e h = let q : g ≡ f = cc h in plan_refused doing reading s f (e ∙ ap Err q)
 
   placed : (x : Result Plan Flaw) → plan_of doing reading s ≡ x → IfErr (verdict x) (Placed (length s))

@@ -1,3 +1,4 @@
 pub mod Trees
 pub mod Checks
+pub mod Kinds
 pub mod Flaws

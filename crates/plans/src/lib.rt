@@ -3,40 +3,59 @@
 // readings.
 #![tactic(auto)]
 
-ghost use Rattle.std.specs.Prelude.{◌≡◌, ◌<◌, ◌≤◌, true, length, drop, is_ok, IfErr, if◌then◌else◌, Some, None, Ok, Err, MatchResult, nat_lt, slice_index};
+ghost use Rattle.std.specs.Prelude.{◌≡◌, ℕ, ◌+◌, ◌<◌, ◌≤◌, ◌⊎◌, true, false, length, drop, is_ok, IfErr, Ok, Err, IfOk, OnOk, MatchResult, slice_index};
 ghost use Rattle.fluents.specs.Sets.{bit};
-ghost use Rattle.fluents.specs.declared.faults.Refusal.TheVariants.{BadPlan, TooManyReadings};
 ghost use Rattle.plans.specs.Checks.{bad, node_of, plan_at, plan_of, ending, verdict};
 ghost use Rattle.plans.specs.Flaws.{Refused, Placed};
+ghost use Rattle.plans.specs.Kinds.{code_of, Decodes};
+ghost use Rattle.plans.specs.declared.Node.TheVariants.{Reading};
 ghost use Rattle.plans.specs.Trees.{Plan, encode, Spells};
 
 use fluents::faults::Refusal;
-use fluents::sets::has;
+use fluents::sets::{Set, has};
 
-// The first byte of a node at which the plan ends.
-pub const END: u8 = 0x00;
+// The kind of a node, with its first byte.
+#[derive(Clone, Copy, PartialEq, Eq, Debug)]
+pub enum Kind {
+    // the plan ends
+    End = 0,
+    // it does an action: the action's number and the rest follow
+    Doing = 1,
+    // it reads a fluent by an action, whose number follows, then the plan for true, then that for false
+    Reading = 2,
+    // the plan has a gap
+    Gap = 3,
+}
 
-// The first byte of a node that does an action: the action's number and the rest follow.
-pub const DOING: u8 = 0x01;
+impl TryFrom<u8> for Kind {
+    type Error = Refusal;
 
-// The first byte of a node that reads a fluent by an action: the action's number, the plan for true
-// and the plan for false follow.
-pub const READING: u8 = 0x02;
+    ghost try_from_gives = { Decodes };
 
-// The first byte of a gap.
-pub const GAP: u8 = 0x03;
+    fn try_from(byte: u8) -> Result<Kind, Refusal> {
+        match byte {
+            0 => Ok(Kind::End),
+            1 => Ok(Kind::Doing),
+            2 => Ok(Kind::Reading),
+            3 => Ok(Kind::Gap),
+            _ => Err(Refusal::BadPlan),
+        }
+    }
+}
 
 // So many readings may lie on one path.
 const MOST_READINGS: u8 = 8;
 
-// Which action numbers are doing actions and which are reading actions: bit a stands for action a.
+// Which action numbers are doing actions and which are reading actions: bit a stands for action a. Clauses
+// take them as two tests (`bit doing`, `bit reading`), since the definitions also serve lists of actions.
 #[derive(Clone, Copy)]
 pub struct Sorts {
     pub doing: u64,
     pub reading: u64,
 }
 
-// Why a plan was refused, and which of its bytes that is about.
+// Why a plan was refused, and which of its bytes that is about. The offset counts from the plan's first
+// byte and not from the file's, so it is not a `Fault`.
 #[derive(Clone, Copy, PartialEq, Eq, Debug)]
 pub struct Flaw {
     pub refusal: Refusal,
@@ -44,13 +63,10 @@ pub struct Flaw {
 }
 
 impl Flaw {
-    fn bad_plan(offset: usize) -> Flaw
-        ensures { result ≡ bad offset }
+    fn new(refusal: Refusal, offset: usize) -> Flaw
+        ensures { (result.refusal ≡ refusal) × (result.offset ≡ offset) }
     {
-        Flaw {
-            refusal: Refusal::BadPlan,
-            offset,
-        }
+        Flaw { refusal, offset }
     }
 }
 
@@ -63,72 +79,98 @@ pub enum Node {
     Gap,
 }
 
-// The byte at an offset; there must be one.
-fn byte(plan: &[u8], at: usize) -> Result<u8, Flaw>
-    ensures { MatchResult result (λ b. (at < length plan.now) × (b ≡ slice_index plan.now at)) (λ e. (length plan.now ≤ at) × (e ≡ bad at)) }
-{
-    if at < plan.len() {
-        Ok(plan[at])
-    } else {
-        Err(Flaw::bad_plan(at))
-    }
+// A plan that is not checked yet: its bytes, and the sorts of the actions that it may name.
+#[derive(Clone, Copy)]
+struct Draft<'a> {
+    bytes: &'a [u8],
+    sorts: Sorts,
 }
 
-// Why a reading node is refused, if it is: for its action before its depth.
-fn reading_flaw(reads: bool, depth: u8) -> Option<Refusal>
-    ensures { result ≡ (if reads then (if nat_lt depth 8 then None else Some TooManyReadings) else Some BadPlan) }
-{
-    if !reads {
-        Some(Refusal::BadPlan)
-    } else if depth < MOST_READINGS {
-        None
-    } else {
-        Some(Refusal::TooManyReadings)
+impl Draft<'_> {
+    // The byte at an offset; there must be one.
+    fn byte(&self, at: usize) -> Result<u8, Flaw>
+        ensures { MatchResult result (λ b. (at < length self.now.bytes.now) × (b ≡ slice_index self.now.bytes.now at)) (λ e. (length self.now.bytes.now ≤ at) × (e ≡ bad at)) }
+    {
+        self.bytes
+            .get(at)
+            .copied()
+            .ok_or(Flaw::new(Refusal::BadPlan, at))
     }
-}
 
-// The node at an offset, below `depth` readings. Its action must be there and of the node's sort, and
-// a reading must have room on its path.
-fn node_at(plan: &[u8], at: usize, depth: u8, sorts: Sorts) -> Result<Node, Flaw>
-    ensures { result ≡ node_of (bit sorts.doing) (bit sorts.reading) at depth (drop at plan.now) }
-{
-    match byte(plan, at)? {
-        END => Ok(Node::End),
-        DOING => {
-            let action = byte(plan, at + 1)?;
-            if has(sorts.doing, action) {
-                Ok(Node::Doing(action))
-            } else {
-                Err(Flaw::bad_plan(at))
+    // The kind of the node at an offset; its first byte must be there, and that of a kind.
+    fn kind(&self, at: usize) -> Result<Kind, Flaw>
+        ensures found { IfOk result (λ kind. (at < length self.now.bytes.now) × (code_of kind ≡ slice_index self.now.bytes.now at)) }
+        ensures refused { IfErr result (λ e. (e ≡ bad at) × (at < length self.now.bytes.now → 3 < slice_index self.now.bytes.now at)) }
+    {
+        Kind::try_from(self.byte(at)?).map_err(|refusal| Flaw::new(refusal, at))
+    }
+
+    // The action of a node at an offset; it must be there, and in the set.
+    fn action(&self, at: usize, set: Set) -> Result<u8, Flaw>
+        requires { at < length self.now.bytes.now }
+        ensures found { IfOk result (λ a. (at + 1 < length self.now.bytes.now) × (a ≡ slice_index self.now.bytes.now (at + 1)) × (bit set a ≡ true)) }
+        ensures absent { IfErr result (λ e. length self.now.bytes.now ≤ at + 1 → e ≡ bad (at + 1)) }
+        ensures other_sort { IfErr result (λ e. at + 1 < length self.now.bytes.now → (e ≡ bad at) × (bit set (slice_index self.now.bytes.now (at + 1)) ≡ false)) }
+    {
+        let action = self.byte(at + 1)?;
+        if has(set, action) {
+            Ok(action)
+        } else {
+            Err(Flaw::new(Refusal::BadPlan, at))
+        }
+    }
+
+    // The node at an offset, below `depth` readings. Its action must be there and of the node's sort, and
+    // a reading must have room on its path.
+    #[tactic(auto, using(crate::proofs::Nodes::reads))]
+    fn node_at(&self, at: usize, depth: u8) -> Result<Node, Flaw>
+        ensures within { OnOk result (at < length self.now.bytes.now) }
+        ensures low { (a : ℕ) → result ≡ Ok (Reading a) → depth < 8 }
+        ensures node { result ≡ node_of (bit self.now.sorts.doing) (bit self.now.sorts.reading) at depth (drop at self.now.bytes.now) }
+    {
+        match self.kind(at)? {
+            Kind::End => Ok(Node::End),
+            Kind::Doing => Ok(Node::Doing(self.action(at, self.sorts.doing)?)),
+            Kind::Reading => {
+                let action = self.action(at, self.sorts.reading)?;
+                if depth < MOST_READINGS {
+                    Ok(Node::Reading(action))
+                } else {
+                    Err(Flaw::new(Refusal::TooManyReadings, at))
+                }
+            }
+            Kind::Gap => Ok(Node::Gap),
+        }
+    }
+
+    // The offset just past the plan that stands at an offset, below `depth` readings. The calls nest at
+    // most half as deep as the plan has bytes, and the stack is to hold those of 1,024 bytes, the most
+    // that a caller may pass.
+    #[tactic(auto, using(crate::proofs::Turns::ending_is))]
+    fn subplan(&self, at: usize, depth: u8) -> Result<usize, Flaw>
+        ensures onward { IfOk result (λ end. at < end) }
+        ensures end { result ≡ ending (plan_at (bit self.now.sorts.doing) (bit self.now.sorts.reading) self.now.bytes.now at depth) }
+    {
+        match self.node_at(at, depth)? {
+            Node::End | Node::Gap => Ok(at + 1),
+            Node::Doing(_) => self.subplan(at + 2, depth),
+            Node::Reading(_) => {
+                let other = self.subplan(at + 2, depth + 1)?;
+                self.subplan(other, depth + 1)
             }
         }
-        READING => {
-            let action = byte(plan, at + 1)?;
-            match reading_flaw(has(sorts.reading, action), depth) {
-                None => Ok(Node::Reading(action)),
-                Some(refusal) => Err(Flaw {
-                    refusal,
-                    offset: at,
-                }),
-            }
-        }
-        GAP => Ok(Node::Gap),
-        _ => Err(Flaw::bad_plan(at)),
     }
-}
 
-// The offset just past the plan that stands at an offset, below `depth` readings. The calls nest at
-// most half as deep as the plan has bytes, and the stack is to hold those of 1,024 bytes, the most
-// that a caller may pass.
-fn subplan(plan: &[u8], at: usize, depth: u8, sorts: Sorts) -> Result<usize, Flaw>
-    ensures { result ≡ ending (plan_at (bit sorts.doing) (bit sorts.reading) plan.now at depth) }
-{
-    match node_at(plan, at, depth, sorts)? {
-        Node::End | Node::Gap => Ok(at + 1),
-        Node::Doing(_) => subplan(plan, at + 2, depth, sorts),
-        Node::Reading(_) => {
-            let other = subplan(plan, at + 2, depth + 1, sorts)?;
-            subplan(plan, other, depth + 1, sorts)
+    // Whether the bytes spell a plan within the limits, with none left over; else the first refusal.
+    #[tactic(auto, using(crate::proofs::Turns::verdict_is))]
+    fn whole(&self) -> Result<(), Flaw>
+        ensures { result ≡ verdict (plan_of (bit self.now.sorts.doing) (bit self.now.sorts.reading) self.now.bytes.now) }
+    {
+        let end = self.subplan(0, 0)?;
+        if end == self.bytes.len() {
+            Ok(())
+        } else {
+            Err(Flaw::new(Refusal::BadPlan, end))
         }
     }
 }
@@ -147,12 +189,7 @@ pub fn check(plan: &[u8], sorts: Sorts) -> Result<(), Flaw>
     ensures unique { (p q : Plan) → plan.now ≡ encode p → plan.now ≡ encode q → p ≡ q }
     ensures place { IfErr result (Placed (length plan.now)) }
 {
-    let end = subplan(plan, 0, 0, sorts)?;
-    if end == plan.len() {
-        Ok(())
-    } else {
-        Err(Flaw::bad_plan(end))
-    }
+    Draft { bytes: plan, sorts }.whole()
 }
 
 #[cfg(test)]

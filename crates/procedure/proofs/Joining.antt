@@ -12,29 +12,37 @@ use Rattle.procedure.proofs.Walking.{ok_same}
 
 -- ---- the frames that a selected file has
 
+-- where the frames of the file lie
+pub record Lies (whole : File) (actions plan start : ℕ) : Type 0 where
+  pub count : length whole.rest.actions ≡ actions
+  pub plan_at : whole.rest.plan.place ≡ plan
+  pub start_at : whole.rest.start.place ≡ start
+
+pub lies : (s : List ℕ) (actions plan start : ℕ) (whole : File) → is_laid (outline_of (frames_of s)) actions plan start ≡ true → frames_of s ≡ Ok whole
+    → Lies whole actions plan start
+lies s actions plan start whole laid e =
+    let same : outline (0 + length whole.rest.actions) whole.rest.plan.place whole.rest.start.place ≡ outline actions plan start =
+    ok_same (ap outline_of (sym e) ∙ laid_is (outline_of (frames_of s)) actions plan start laid) in
+    record { count = omega (arith, ap (λ x. x.actions) same); plan_at = ap (λ x. x.plan) same; start_at = ap (λ x. x.start) same }
+
 pub record Laid (s : List ℕ) (actions plan start : ℕ) : Type 0 where
   pub whole : File
   pub frames : frames_of s ≡ Ok whole
-  pub count : length whole.rest.actions ≡ actions
-  pub plan_lies_at : whole.rest.plan.place ≡ plan
-  pub start_at : whole.rest.start.place ≡ start
+  pub lie : Lies whole actions plan start
 
 pub laid : (s : List ℕ) (actions plan start : ℕ) → is_laid (outline_of (frames_of s)) actions plan start ≡ true → Laid s actions plan start
-laid s actions plan start e = go (frames_of s) refl (laid_is (outline_of (frames_of s)) actions plan start e)
+laid s actions plan start e = go (frames_of s) refl
   where
-    go : (r : Result File Fault) → frames_of s ≡ r → outline_of (frames_of s) ≡ Ok (outline actions plan start) → Laid s actions plan start
-    go (Ok whole) f o =
-        let same : outline (0 + length whole.rest.actions) whole.rest.plan.place whole.rest.start.place ≡ outline actions plan start = ok_same (ap outline_of (sym f) ∙ o) in
-        record {
-          whole = whole;
-          frames = f;
-          count = omega (arith, ap (λ x. x.actions) same);
-          plan_lies_at = ap (λ x. x.plan) same;
-          start_at = ap (λ x. x.start) same;
-        }
-    go (Err fault) f o = ok_err (sym (ap outline_of (sym f) ∙ o))
+    go : (r : Result File Fault) → frames_of s ≡ r → Laid s actions plan start
+    go (Ok whole) f = record { whole = whole; frames = f; lie = lies s actions plan start whole e f }
+    go (Err fault) f = ok_err (sym (ap outline_of (sym f) ∙ laid_is (outline_of (frames_of s)) actions plan start e))
 
 -- ---- one refusal after another
+
+-- a file that is not selected has no procedure
+pub not_selected : (s : List ℕ) (fault : Fault) → frames_of s ≡ Err fault → procedure_of s ≡ Err fault
+unfolding procedure_of
+not_selected s fault e = ap (λ r. then r procedure_in) e
 
 module _ (s : List ℕ) (whole : File) (frames : frames_of s ≡ Ok whole) where
   of_frames : procedure_of s ≡ procedure_in whole

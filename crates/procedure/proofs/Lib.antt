@@ -2,6 +2,7 @@ pub mod Holding
 pub mod Inside
 pub mod Joining
 pub mod Loading
+pub mod Options
 pub mod Rereading
 pub mod Sorts
 pub mod Walking

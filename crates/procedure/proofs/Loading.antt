@@ -1,15 +1,11 @@
 -- How far the loading of the actions has come. Assumes nothing.
-use Rattle.std.proofs.Common.{◌≡◌, ℕ, suc, ◌+◌, ◌-◌, ◌<◌, ◌≤◌, true, ◌&&◌, ◌||◌, eqb, List, [], ◌∷◌, ◌++◌, length, None, Ok, Err, Result, sym, refl, ap, ◌∙◌, arith}
+use Rattle.std.proofs.Common.{◌≡◌, ℕ, suc, ◌+◌, ◌-◌, ◌<◌, ◌≤◌, ◌&&◌, ◌||◌, eqb, List, [], ◌∷◌, ◌++◌, length, Ok, Err, Result, sym, refl, ap, ◌∙◌, arith}
 use Rattle.std.proofs.lemmas.List.{append-nil, append_assoc, length_push, nil_from_length}
 use Rattle.fluents.specs.Sets.{bit}
 use Rattle.fluents.specs.declared.faults.Fault.{Fault}
 use Rattle.fluents.proofs.Bits.{bit-zero}
 use Rattle.plans.specs.declared.Sorts.{Sorts}
-use Rattle.frames.specs.Frames.{Frame, frame_at, after_at, kind_at, is_fit, flaw_at}
-use Rattle.frames.specs.Seen.{Shows, kind_of, payload_of}
-use Rattle.frames.specs.declared.frame.Due.{Due}
-use Rattle.frames.specs.declared.frame.Frame.{Frame as Held}
-use Rattle.frames.proofs.Reading.{flawless, payload_length, whole_le}
+use Rattle.frames.specs.Frames.{Frame, frame_at, after_at}
 use Rattle.frames.specs.Files.{Rest, File, rest_from, frames_of}
 use Rattle.procedure.specs.Acts.{is_do, is_read, Sorted}
 use Rattle.procedure.specs.Procedures.{Act, then, act_of, acts_of, does_at, reads_at}
@@ -103,10 +99,3 @@ all_done n s all k place sorts p end =
       p.acts ∙ ap (λ xs. prefixed p.done (acts_of n xs)) none ∙ ap Ok (append-nil p.done),
       p.sorted,
     )
-
--- a frame without a flaw has a payload that fits its kind
-pub held_fits : (s : List ℕ) (p : ℕ) (due : Due) (held : Held) → flaw_at s p due ≡ None → Shows held (frame_at s p)
-    → is_fit (kind_of held) (length (payload_of held).bytes.now) ≡ true
-held_fits s p due held e shows =
-    let long = ap length shows.payload ∙ payload_length s p (whole_le s p due e) in
-    ap (λ (k : ℕ). is_fit k (length (payload_of held).bytes.now)) shows.kind ∙ ap (is_fit (kind_at s p)) long ∙ (flawless s p due e).fit

@@ -8,16 +8,15 @@ use Rattle.plans.specs.Checks.{plan_of, verdict}
 use Rattle.plans.specs.Trees.{Plan}
 use Rattle.plans.specs.declared.Flaw.{Flaw}
 use Rattle.plans.specs.declared.Sorts.{Sorts}
-use Rattle.frames.specs.Frames.{Frame, frame_at, length_at, kind_at, flaw_at}
+use Rattle.frames.specs.Frames.{Frame, frame_at, flaw_at}
 use Rattle.frames.specs.Files.{File, frames_of}
 use Rattle.frames.specs.Seen.{Shows, payload_of}
-use Rattle.frames.specs.declared.frame.Due.TheVariants.{Header, Body, Start}
+use Rattle.frames.specs.declared.frame.Due.TheVariants.{Body, Start}
 use Rattle.frames.specs.declared.frame.Frame.{Frame as Held}
-use Rattle.frames.proofs.Reading.{flawless, payload_length, whole_le}
 use Rattle.procedure.specs.Acts.{Sorted}
 use Rattle.procedure.specs.Fields.{is_header, is_state, row_at}
 use Rattle.procedure.specs.Procedures.{Act, good_or, placed, does_at, reads_at}
-use Rattle.procedure.proofs.Walking.{opening, header_length, tail_of}
+use Rattle.procedure.proofs.Walking.{opening, tail_of}
 
 pub good_ok : {A : Type 0} (frame : Frame) (good : Bool) (v w : A) → good ≡ true → v ≡ w → good_or frame good v ≡ Ok w
 good_ok frame good v w e q = ap (λ b. cond b (Ok v) (Err (fault_at BadField frame.place))) e ∙ ap Ok q
@@ -26,11 +25,6 @@ pub good_err : {A : Type 0} (frame : Frame) (good : Bool) (v : A) → good ≡ f
 good_err frame good v e = ap (λ b. cond b (Ok v) (Err (fault_at BadField frame.place))) e
 
 -- ---- the header
-
-pub header_long : (s : List ℕ) (held : Held) → flaw_at s 0 Header ≡ None → Shows held (frame_at s 0) → length (payload_of held).bytes.now ≡ 17
-header_long s held e shows =
-    let all = flawless s 0 Header e in
-    ap length shows.payload ∙ payload_length s 0 (whole_le s 0 Header e) ∙ header_length (kind_at s 0) (length_at s 0) all.dues all.fit
 
 first_of : (a b c : Bool) → (a && b && c) ≡ true → b ≡ true
 first_of true true c e = refl

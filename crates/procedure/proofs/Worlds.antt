@@ -1,28 +1,32 @@
--- The worlds of a payload, place by place. Assumes nothing.
-use Rattle.std.proofs.Common.{◌≡◌, ℕ, zero, suc, ◌+◌, ◌*◌, ◌/◌, ◌<◌, ◌≤◌, ◌&&◌, List, length, get_or, take, drop, sym, refl, ap, ◌∙◌, arith}
-use Rattle.std.proofs.lemmas.List.{ext_get_or, get_or-take, length-take-le, at_drop_more}
+-- The worlds of a payload, one after another. Assumes nothing.
+use Rattle.std.proofs.Common.{◌≡◌, ℕ, zero, suc, ◌+◌, ◌*◌, ◌/◌, ◌&&◌, List, [], ◌∷◌, ◌++◌, length, sym, refl, ap, ◌∙◌, add-one, arith}
+use Rattle.std.specs.List.{list_all}
 use Rattle.procedure.specs.Fields.{set_at, is_inside, are_inside, worlds_from, worlds_in}
 
-worlds_length : (k : ℕ) (s : List ℕ) (i : ℕ) → length (worlds_from k s i) ≡ k
+pub worlds_length : (k : ℕ) (s : List ℕ) (i : ℕ) → length (worlds_from k s i) ≡ k
 worlds_length zero s i = refl
 worlds_length (suc k) s i = ap suc (worlds_length k s (i + 8))
 
-worlds_at : (k : ℕ) (s : List ℕ) (i j : ℕ) → j < k → get_or (worlds_from k s i) j 0 ≡ set_at s (i + 8 * j)
-worlds_at zero s i j h = absurd (omega arith)
-worlds_at (suc k) s i zero h = ap (set_at s) (omega arith)
-worlds_at (suc k) s i (suc j) h = worlds_at k s (i + 8) j (omega arith) ∙ ap (set_at s) (omega arith)
+-- one world more
+pub worlds_more : (k : ℕ) (s : List ℕ) (i : ℕ) → worlds_from (suc k) s i ≡ worlds_from k s i ++ (set_at s (i + 8 * k) ∷ [])
+worlds_more zero s i = ap (λ (j : ℕ). set_at s j ∷ []) (omega arith)
+worlds_more (suc k) s i =
+    ap (λ (xs : List ℕ). set_at s i ∷ xs)
+    (worlds_more k s (i + 8) ∙ ap (λ (j : ℕ). worlds_from k s (i + 8) ++ (set_at s j ∷ [])) (omega arith))
 
--- the front of an array that holds the worlds at their places
-pub worlds_filled : (s xs : List ℕ) → length s / 8 ≤ length xs → ((j : ℕ) → j < length s / 8 → get_or xs j 0 ≡ set_at s (8 * j)) → take (length s / 8) xs ≡ worlds_in s
+-- a list that grew by the next world
+pub worlds_grown : (s new old : List ℕ) (k w : ℕ) → new ≡ old ++ (w ∷ []) → old ≡ worlds_from k s 0 → w ≡ set_at s (8 * k) → new ≡ worlds_from (k + 1) s 0
+worlds_grown s new old k w grows before is =
+    grows ∙ ap (λ (xs : List ℕ). xs ++ (w ∷ [])) before ∙ ap (λ (x : ℕ). worlds_from k s 0 ++ (x ∷ [])) is
+    ∙ ap (λ (j : ℕ). worlds_from k s 0 ++ (set_at s j ∷ [])) (omega arith)
+    ∙ sym (worlds_more k s 0) ∙ ap (λ (j : ℕ). worlds_from j s 0) (sym (add-one k))
+
+-- as many worlds as the payload has
+pub worlds_all : (s : List ℕ) (k : ℕ) → k ≡ length s / 8 → worlds_from k s 0 ≡ worlds_in s
 unfolding worlds_in
-worlds_filled s xs long at =
-    let k = length s / 8 in
-    let front = length-take-le k xs long in
-    ext_get_or 0 (take k xs) (worlds_from k s 0) (front ∙ sym (worlds_length k s 0))
-    (λ j h.
-    let below : j < k = omega (arith, front) in
-    get_or-take k xs j 0 below ∙ at j below ∙ ap (set_at s) (omega arith) ∙ sym (worlds_at k s 0 j below))
+worlds_all s k e = ap (λ (n : ℕ). worlds_from n s 0) e
 
--- one world on
-pub inside_next : (n : ℕ) (ws : List ℕ) (i : ℕ) → i < length ws → are_inside n (drop i ws) ≡ (is_inside n (get_or ws i 0) && are_inside n (drop (i + 1) ws))
-inside_next n ws i h = at_drop_more (are_inside n) ws i 0 h
+-- the code's test of all worlds
+pub all_inside : (n : ℕ) (ws : List ℕ) → list_all (λ w. is_inside n w) ws ≡ are_inside n ws
+all_inside n [] = refl
+all_inside n (w ∷ ws) = ap (λ b. is_inside n w && b) (all_inside n ws)

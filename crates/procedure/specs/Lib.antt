@@ -4,3 +4,4 @@ pub mod Acts
 pub mod Starts
 pub mod Said
 pub mod Held
+pub mod Asked

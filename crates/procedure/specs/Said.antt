@@ -7,8 +7,8 @@ use Rattle.procedure.specs.declared.contents.Contents.{Contents}
 
 -- the contents of a file with so many actions and the plan frame at this place are those of the procedure
 pub record Says (found : Contents) (actions plan : ℕ) (p : Procedure) : Type 0 where
-  pub n : found.n ≡ p.n
-  pub goal : row_of found.goal ≡ p.goal
+  pub n : found.header.n ≡ p.n
+  pub goal : row_of found.header.goal ≡ p.goal
   pub actions_are : actions ≡ length p.actions
   pub place : plan + 4 ≡ p.place
   pub long : found.len ≡ length (encode p.plan)

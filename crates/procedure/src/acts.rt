@@ -1,17 +1,18 @@
 // The actions of a file.
-ghost use Rattle.std.specs.Prelude.{◌≡◌, ℕ, ◌<◌, ◌≤◌, true, false, ◌&&◌, ◌||◌, List, length, IfSome, Ok, Err, MatchOption, MatchResult, OnSome, ◌==◌, slice_index_or};
+ghost use Rattle.std.specs.Prelude.{◌≡◌, ℕ, ◌<◌, ◌≤◌, true, ◌&&◌, ◌||◌, List, length, IfSome, Ok, Err, MatchOption, MatchResult, OnSome, ◌==◌, slice_index_or};
 ghost use Rattle.fluents.specs.Refusals.{fault_at};
 ghost use Rattle.fluents.specs.Sets.{bit};
 ghost use Rattle.fluents.specs.declared.faults.Refusal.TheVariants.{BadField};
-ghost use Rattle.frames.specs.Files.{File, frames_of};
-ghost use Rattle.frames.specs.Frames.{is_action, is_fit, Frame as Sheet};
-ghost use Rattle.frames.specs.Seen.{Shows, kind_of, payload_of};
+ghost use Rattle.frames.specs.Frames.{is_action, Frame as Sheet};
+ghost use Rattle.frames.specs.Seen.{Shows, kind_of, Fits};
 ghost use Rattle.procedure.specs.Acts.{act_seen, is_do, is_read, Sorted};
 ghost use Rattle.procedure.specs.Procedures.{Act, act_of, acts_of};
+ghost use Rattle.procedure.specs.Asked.{IfFramed};
 
 use crate::fields::{doing_action, reading_action};
 use fluents::faults::{Fault, Refusal};
 use frames::frame::{Due, Frame};
+use frames::selected::Selected;
 use knowledge::actions::Action;
 use plans::Sorts;
 
@@ -19,20 +20,15 @@ use plans::Sorts;
 const HEADER_END: usize = 23;
 
 // The action of a frame, where it is an action with good fields.
+// `requires` says that the length fits the kind, since an enum has no invariant of its own.
 pub(crate) fn action_of(frame: Frame, n: u8) -> Option<Action>
-    requires { (is_fit (kind_of frame) (length (payload_of frame).bytes.now) ≡ true) × (n ≤ 64) }
+    requires { Fits frame × (n ≤ 64) }
     ensures action { OnSome result (is_action (kind_of frame.entry) ≡ true) }
     ensures value { (sheet : Sheet) → Shows frame.entry sheet → is_action sheet.kind ≡ true → MatchOption result (act_of n sheet ≡ Err (fault_at BadField sheet.place)) (λ a. act_of n sheet ≡ Ok (act_seen a)) }
 {
     match frame {
-        Frame::Doing(payload) => {
-            let action = doing_action(payload.bytes, n)?;
-            Some(Action::Doing(action))
-        }
-        Frame::Reading(payload) => {
-            let action = reading_action(payload.bytes, n)?;
-            Some(Action::Reading(action))
-        }
+        Frame::Doing(payload) => doing_action(payload.bytes, n).map(Action::Doing),
+        Frame::Reading(payload) => reading_action(payload.bytes, n).map(Action::Reading),
         Frame::Header(_) | Frame::Plan(_) | Frame::PartialStart(_) | Frame::WorldStart(_) => None,
     }
 }
@@ -46,53 +42,46 @@ fn noted(sorts: Sorts, k: usize, action: Action) -> Sorts
     match action {
         Action::Doing(_) => Sorts {
             doing: sorts.doing | 1 << k,
-            reading: sorts.reading,
+            ..sorts
         },
         Action::Reading(_) => Sorts {
-            doing: sorts.doing,
             reading: sorts.reading | 1 << k,
+            ..sorts
         },
     }
 }
 
-// The sorts of the actions of a file with so many, where the fields of all are good.
-pub(crate) fn sorts_of(file: &[u8], n: u8, count: usize) -> Result<Sorts, Fault>
+// The sorts of the actions of a selected file, where the fields of all are good.
+// It reads frame after frame, as `action_frame` does: an iterator for both is no plainer, since it would
+// take more lines than the two that they share.
+pub(crate) fn sorts_of(selected: &Selected, n: u8) -> Result<Sorts, Fault>
     requires { n ≤ 64 }
-    ensures { (whole : File) → frames_of file.now ≡ Ok whole → length whole.rest.actions ≡ count → MatchResult result (λ sorts. (acts : List Act) × (acts_of n whole.rest.actions ≡ Ok acts) × Sorted acts sorts) (λ e. acts_of n whole.rest.actions ≡ Err e) }
+    ensures { IfFramed selected.now.file.now (λ whole. MatchResult result (λ sorts. (acts : List Act) × (acts_of n whole.rest.actions ≡ Ok acts) × Sorted acts sorts) (λ e. acts_of n whole.rest.actions ≡ Err e)) }
 {
+    let file = selected.file();
     let mut place = HEADER_END;
     let mut sorts = Sorts {
         doing: 0,
         reading: 0,
     };
-    for k in 0..count {
+    for k in 0..selected.actions() {
         let frame = Frame::read(file, place, Due::Body(k))?;
-        let Some(action) = action_of(frame, n) else {
-            return Err(Fault {
-                refusal: Refusal::BadField,
-                place,
-            });
-        };
+        let action = action_of(frame, n).ok_or(Refusal::BadField.at(place))?;
         sorts = noted(sorts, k, action);
         place = frame.end();
     }
     Ok(sorts)
 }
 
-// The frame of the action of this number, where the file has that many actions.
+// The frame of the action of this number, where the file has that many actions. By a loop, since an iterator over frames
+// would be longer than it.
 pub(crate) fn action_frame(file: &[u8], number: usize) -> Option<Frame<'_>>
-    ensures fits { IfSome result (λ frame. is_fit (kind_of frame) (length (payload_of frame).bytes.now) ≡ true) }
-    ensures value { (whole : File) → frames_of file.now ≡ Ok whole → number < length whole.rest.actions → MatchOption result ⊥ (λ frame. (sheet : Sheet) × ((d : Sheet) → slice_index_or whole.rest.actions number d ≡ sheet) × Shows frame sheet × (is_action sheet.kind ≡ true)) }
+    ensures fits { IfSome result (λ frame. Fits frame) }
+    ensures value { IfFramed file.now (λ whole. number < length whole.rest.actions → MatchOption result ⊥ (λ frame. (sheet : Sheet) × ((d : Sheet) → slice_index_or whole.rest.actions number d ≡ sheet) × Shows frame sheet × (is_action sheet.kind ≡ true))) }
 {
     let mut place = HEADER_END;
     for k in 0..number {
-        let Ok(frame) = Frame::read(file, place, Due::Body(k)) else {
-            return None;
-        };
-        place = frame.end();
+        place = Frame::read(file, place, Due::Body(k)).ok()?.end();
     }
-    let Ok(frame) = Frame::read(file, place, Due::Body(number)) else {
-        return None;
-    };
-    Some(frame)
+    Frame::read(file, place, Due::Body(number)).ok()
 }

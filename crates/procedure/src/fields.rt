@@ -11,16 +11,8 @@ pub(crate) fn set_at(bytes: &[u8], at: usize) -> Set
     requires { at + 8 ≤ length bytes.now }
     ensures { result ≡ set_at bytes.now at }
 {
-    u64::from_le_bytes([
-        bytes[at],
-        bytes[at + 1],
-        bytes[at + 2],
-        bytes[at + 3],
-        bytes[at + 4],
-        bytes[at + 5],
-        bytes[at + 6],
-        bytes[at + 7],
-    ])
+    // `requires` says that eight bytes are there.
+    u64::from_le_bytes(*bytes[at..].first_chunk().unwrap())
 }
 
 // Whether the set has only members below n.
@@ -57,7 +49,7 @@ pub(crate) fn header_fields(bytes: &[u8]) -> Option<Header>
     ensures { MatchOption result (is_header bytes.now ≡ false) (λ h. (is_header bytes.now ≡ true) × (h.n ≡ slice_index bytes.now 0) × (h.goal.trues ≡ set_at bytes.now 1) × (h.goal.falses ≡ set_at bytes.now 9)) }
 {
     let n = bytes[0];
-    if n < 1 || n > 64 {
+    if !(1..=64).contains(&n) {
         return None;
     }
     let goal = state_at(bytes, 1, n)?;

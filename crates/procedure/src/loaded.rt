@@ -7,7 +7,8 @@ use knowledge::states::PartialState;
 
 pub mod reader;
 
-// The lent bytes of a file that has a procedure, with some of its numbers; what else it has is read from the file.
+// The lent bytes of a file that has a procedure, with some of its numbers; what else it has is read from the file. The plan is a
+// place and a length, since a rule of the project has the file and numbers kept here, and no more.
 #[derive(Drop)]
 pub struct Loaded<'a> {
     file: &'a [u8],

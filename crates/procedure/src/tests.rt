@@ -65,10 +65,9 @@ fn has_seven(rt: &impl Abort, list: &WorldList) -> Result<(), Fail> {
 // Load refuses the file by this number at this place, gives it back, and leaves the list as it was.
 fn refused(rt: &impl Abort, file: &[u8], number: u8, place: usize) -> Result<(), Fail> {
     let mut list = WorldList::single(7);
-    match Loaded::load(Selected::select(file)?.take(), &mut list) {
+    match Loaded::load(Selected::select(file)?, &mut list) {
         Ok(_) => Err(Fail::new("not refused")),
         Err(unloaded) => {
-            let unloaded = unloaded.take();
             assert_eq!(rt; unloaded.fault.number(), number);
             assert_eq!(rt; unloaded.fault.place, place);
             assert_eq!(rt; unloaded.selected.actions(), 1);
@@ -85,9 +84,8 @@ fn start_of(
     plan: &[u8],
     list: &mut WorldList,
 ) -> Result<Start, Fail> {
-    match Loaded::load(Selected::select(file)?.take(), list) {
+    match Loaded::load(Selected::select(file)?, list) {
         Ok(opened) => {
-            let opened = opened.take();
             assert_eq!(rt; opened.loaded.actions(), 1);
             assert!(rt; opened.loaded.action(0).is_some());
             assert!(rt; opened.loaded.action(1).is_none());

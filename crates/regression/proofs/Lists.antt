@@ -1,6 +1,8 @@
 -- How the definitions of rows go through a list, one row after the other. Assumes nothing.
-use Rattle.std.proofs.Common.{◌≡◌, ℕ, ◌+◌, ◌<◌, ◌≤◌, Bool, true, false, cond, List, [], ◌∷◌, ◌++◌, map, length, get_or, take, sym, refl, ap, ◌∙◌, ap₂, append_assoc, append-nil}
-use Rattle.std.proofs.lemmas.List.{map-append, take_more, take_all}
+use Rattle.std.proofs.Common.{◌≡◌, ℕ, ◌^◌, Bool, true, false, cond, List, [], ◌∷◌, ◌++◌, map, sym, refl, ap, ◌∙◌, ap₂, append_assoc, append-nil}
+use Rattle.std.specs.Int.Bits.{bit_or, or_zero_l}
+use Rattle.std.proofs.lemmas.Nat.{or_comm}
+use Rattle.std.proofs.lemmas.List.{map-append}
 use Rattle.knowledge.specs.declared.states.Row.{Row}
 use Rattle.meaning.specs.Rows.{keep, joined, is_sound, guarded, survives, before, regressed, plus, less, allows, pairs, asked}
 
@@ -60,29 +62,35 @@ pub pairs_more : (ts : List Row) (t : Row) (es : List Row) → pairs (ts ++ t �
 pairs_more [] t es = append-nil (map (joined t) es)
 pairs_more (x ∷ ts) t es = ap (λ l. map (joined x) es ++ l) (pairs_more ts t es) ∙ sym (append_assoc (map (joined x) es) (pairs ts es) (map (joined t) es))
 
--- ---- a loop that gathers F of the rows xs, with the conditions c, behind those of start
+-- ---- the row with one literal alone
 
-module _ (c : Row) (start : List Row) where
-  pub gather_none : start ≡ start ++ guarded c []
-  gather_none = sym (ap (λ l. start ++ l) (guarded_none c) ∙ append-nil start)
+-- no literal
+abbrev blank : Row
+blank = record { trues = 0; falses = 0 }
 
-  pub gather_more : (F : List Row → List Row) (held xs : List Row) (i : ℕ) (d : Row) (more : List Row) → i < length xs
-      → F (take i xs ++ get_or xs i d ∷ []) ≡ F (take i xs) ++ more
-      → held ≡ start ++ guarded c (F (take i xs)) → held ++ guarded c more ≡ start ++ guarded c (F (take (i + 1) xs))
-  gather_more F held xs i d more lt step before =
-      ap (λ l. l ++ guarded c more) before ∙ append_assoc start (guarded c (F (take i xs))) (guarded c more)
-      ∙ ap (λ l. start ++ l) (sym (guarded_append c (F (take i xs)) more) ∙ ap (guarded c) (sym step ∙ ap F (sym (take_more xs i d lt))))
+joined_alone : (f : ℕ) (v : Bool) (r : Row) → joined (plus f v blank) r ≡ plus f v r
+joined_alone f true r = λ i. record { trues = (ap (λ (n : ℕ). bit_or n r.trues) (or_zero_l (2 ^ f)) ∙ or_comm (2 ^ f) r.trues) i; falses = or_zero_l r.falses i }
+joined_alone f false r = λ i. record { trues = or_zero_l r.trues i; falses = (ap (λ (n : ℕ). bit_or n r.falses) (or_zero_l (2 ^ f)) ∙ or_comm (2 ^ f) r.falses) i }
 
-  pub gather_all : (F : List Row → List Row) (held xs : List Row) (i : ℕ) → length xs ≤ i → held ≡ start ++ guarded c (F (take i xs)) → held ≡ start ++ guarded c (F xs)
-  gather_all F held xs i le before = before ∙ ap (λ l. start ++ guarded c (F l)) (take_all i xs le)
+joined_alone_each : (f : ℕ) (v : Bool) (rs : List Row) → map (joined (plus f v blank)) rs ≡ map (plus f v) rs
+joined_alone_each f v [] = refl
+joined_alone_each f v (r ∷ rs) = ap₂ (λ x xs. x ∷ xs) (joined_alone f v r) (joined_alone_each f v rs)
+
+-- ---- what is gathered, with the conditions c, behind what was there
+
+pub gather_none : (c : Row) (start : List Row) → start ≡ start ++ guarded c []
+gather_none c start = sym (ap (λ l. start ++ l) (guarded_none c) ∙ append-nil start)
 
 -- the three sorts of candidates of a reading, one after the other
 pub gather_asked : (c : Row) (f : ℕ) (ts es ts' es' : List Row) → ts' ≡ keep (allows f true) ts → es' ≡ keep (allows f false) es
-    → (guarded c (map (plus f true) ts') ++ guarded c (map (plus f false) es')) ++ guarded c (pairs (map (less f true) ts') (map (less f false) es'))
-    ≡ guarded c (asked f ts es)
+    → (first second third : List Row) → first ≡ guarded c (map (joined (plus f true blank)) ts')
+    → second ≡ first ++ guarded c (map (joined (plus f false blank)) es')
+    → third ≡ second ++ guarded c (pairs (map (less f true) ts') (map (less f false) es'))
+    → third ≡ guarded c (asked f ts es)
 unfolding asked
-gather_asked c f ts es ts' es' p q =
-    append_assoc (guarded c (map (plus f true) ts')) (guarded c (map (plus f false) es')) (guarded c (both ts' es'))
+gather_asked c f ts es ts' es' p q first second third a b d =
+    d ∙ ap (λ l. l ++ guarded c (both ts' es')) (b ∙ ap₂ (λ us vs. us ++ guarded c vs) (a ∙ ap (guarded c) (joined_alone_each f true ts')) (joined_alone_each f false es'))
+    ∙ append_assoc (guarded c (map (plus f true) ts')) (guarded c (map (plus f false) es')) (guarded c (both ts' es'))
     ∙ ap (λ l. guarded c (map (plus f true) ts') ++ l) (sym (guarded_append c (map (plus f false) es') (both ts' es')))
     ∙ sym (guarded_append c (map (plus f true) ts') (map (plus f false) es' ++ both ts' es'))
     ∙ ap₂ (λ us vs. guarded c (map (plus f true) us ++ (map (plus f false) vs ++ both us vs))) p q

@@ -1,11 +1,12 @@
 -- What the node at a place says of the rows of the plan there. Assumes nothing.
-use Rattle.std.proofs.Common.{◌≡◌, ℕ, ◌+◌, ◌≤◌, List, [], ◌∷◌, length, Some, Ok, Err, Result, sym, refl, ap, ◌∙◌, subst, arith, length-append}
+use Rattle.std.proofs.Common.{◌≡◌, ℕ, ◌+◌, ◌<◌, ◌≤◌, List, [], ◌∷◌, length, Some, Ok, Err, Result, sym, refl, ap, ◌∙◌, subst, arith, length-append}
 use Rattle.fluents.specs.declared.faults.Fault.{Fault}
 use Rattle.knowledge.specs.declared.actions.Action.TheVariants.{Doing as DoingAct, Reading as ReadingAct}
 use Rattle.knowledge.specs.declared.actions.DoingAction.{DoingAction}
 use Rattle.knowledge.specs.declared.actions.ReadingAction.{ReadingAction}
 use Rattle.knowledge.specs.declared.states.Row.{Row}
 use Rattle.plans.specs.Trees.{Plan, finish, act, ask, gap, encode, past, NodeAt}
+use Rattle.plans.proofs.Codes.{some_bytes}
 use Rattle.plans.proofs.Places.{node_root, node_rest, node_true, node_false, node_within}
 use Rattle.procedure.specs.Acts.{row_of, act_seen}
 use Rattle.procedure.specs.Procedures.{Act, Procedure, procedure_of, then}
@@ -15,52 +16,42 @@ use Rattle.procedure.proofs.Walking.{ok_same}
 use Rattle.meaning.specs.Nodes.{Shown}
 use Rattle.meaning.specs.Rows.{guarded, regressed, asked, least_rows, limited, rows_of}
 use Rattle.meaning.specs.Steps.{doing_step, reading_step, act_at, steps_of}
-use Rattle.meaning.specs.declared.nodes.Node.{Node}
 use Rattle.meaning.specs.declared.nodes.Node.TheVariants.{End, Doing, Reading, Gap}
 use Rattle.regression.specs.Roots.{Stands}
 
 -- ---- the plan whose first node was read
 
-differ : {A : Type 0} (m n : Node) (number : Node → ℕ) → (number m ≡ number n → ⊥) → m ≡ n → A
-differ m n number apart e = absurd (apart (ap number e))
-
-abbrev kind : Node → ℕ
-kind End = 0
-kind (Doing a x) = 1
-kind (Reading a x) = 2
-kind Gap = 3
-
 module _ (acts : List Act) where
   shown_end : (q : Plan) → Shown acts q End → q ≡ finish
   shown_end finish s = refl
-  shown_end (act a p) s = differ End (Doing a s.0) kind (omega arith) s.1
-  shown_end (ask a p r) s = differ End (Reading a s.0) kind (omega arith) s.1
-  shown_end gap s = differ End Gap kind (omega arith) s
+  shown_end (act a p) s = absurd (cc s.1)
+  shown_end (ask a p r) s = absurd (cc s.1)
+  shown_end gap s = absurd (cc s)
 
   shown_gap : (q : Plan) → Shown acts q Gap → q ≡ gap
-  shown_gap finish s = differ Gap End kind (omega arith) s
-  shown_gap (act a p) s = differ Gap (Doing a s.0) kind (omega arith) s.1
-  shown_gap (ask a p r) s = differ Gap (Reading a s.0) kind (omega arith) s.1
+  shown_gap finish s = absurd (cc s)
+  shown_gap (act a p) s = absurd (cc s.1)
+  shown_gap (ask a p r) s = absurd (cc s.1)
   shown_gap gap s = refl
 
   pub shown_doing : (q : Plan) (b : ℕ) (x : DoingAction) → Shown acts q (Doing b x) → (p : Plan) × (q ≡ act b p) × (act_at acts b ≡ Some (act_seen (DoingAct x)))
-  shown_doing finish b x s = differ (Doing b x) End kind (omega arith) s
+  shown_doing finish b x s = absurd (cc s)
   shown_doing (act a p) b x s =
       let name : b ≡ a = cc s.1 in
       let same : x ≡ s.0 = cc s.1 in
       (p, ap (λ n. act n p) (sym name), ap (act_at acts) name ∙ s.2 ∙ ap (λ y. Some (act_seen (DoingAct y))) (sym same))
-  shown_doing (ask a p r) b x s = differ (Doing b x) (Reading a s.0) kind (omega arith) s.1
-  shown_doing gap b x s = differ (Doing b x) Gap kind (omega arith) s
+  shown_doing (ask a p r) b x s = absurd (cc s.1)
+  shown_doing gap b x s = absurd (cc s)
 
   pub shown_reading : (q : Plan) (b : ℕ) (x : ReadingAction) → Shown acts q (Reading b x)
       → (t : Plan) × (e : Plan) × (q ≡ ask b t e) × (act_at acts b ≡ Some (act_seen (ReadingAct x)))
-  shown_reading finish b x s = differ (Reading b x) End kind (omega arith) s
-  shown_reading (act a p) b x s = differ (Reading b x) (Doing a s.0) kind (omega arith) s.1
+  shown_reading finish b x s = absurd (cc s)
+  shown_reading (act a p) b x s = absurd (cc s.1)
   shown_reading (ask a t e) b x s =
       let name : b ≡ a = cc s.1 in
       let same : x ≡ s.0 = cc s.1 in
       (t, e, ap (λ n. ask n t e) (sym name), ap (act_at acts) name ∙ s.2 ∙ ap (λ y. Some (act_seen (ReadingAct y))) (sym same))
-  shown_reading gap b x s = differ (Reading b x) Gap kind (omega arith) s
+  shown_reading gap b x s = absurd (cc s)
 
 -- ---- the rows of a plan from those of what follows its first node
 
@@ -186,32 +177,47 @@ stands_within l i w =
     let inside = (node_within w.p.plan w.p.place i w.q w.node).1 in
     (omega (arith, place, long, inside), omega (arith, place, long, lies))
 
+-- a node has a byte
+pub stands_more : (l : Loaded) (i : ℕ) → Stands l.file.now i → i < length l.file.now
+stands_more l i w = let inside = stands_within l i w in omega (arith, inside.0, inside.1, some_bytes w.q)
+
 pub stands_root : (l : Loaded) (i : ℕ) → ((p : Procedure) → procedure_of l.file.now ≡ Ok p → i ≡ p.place) → Stands l.file.now i
 stands_root l i place =
     let k = kept (procedure_of l.file.now) l.n l.goal.trues l.goal.falses l.actions l.plan l.len l.held in
     record { p = k.p; is = k.is; q = k.p.plan; node = root_node k.p i (place k.p k.is) }
 
-module _ (s : List ℕ) (i : ℕ) (w : Stands s i) (a : ℕ) where
+-- another node stands at j, behind i and before the end of the plan, which lies in the file
+pub record Next (l : Loaded) (i j : ℕ) : Type 0 where
+  pub stands : Stands l.file.now j
+  pub behind : i < j
+  pub before : j ≤ l.plan + l.len
+  pub inside : l.plan + l.len ≤ length l.file.now
+
+module _ (l : Loaded) (i : ℕ) (w : Stands l.file.now i) (a : ℕ) where
+  next : (j : ℕ) (u : Plan) → NodeOf w.p j u → i < j → j ≤ past i w.q → Next l i j
+  next j u node behind before =
+      let inside = stands_within l i w in
+      record { stands = record { p = w.p; is = w.is; q = u; node = node }; behind = behind; before = omega (arith, inside.0, before); inside = inside.1 }
+
   -- the rest of a doing node
-  pub stands_rest : (x : DoingAction) → Shown w.p.actions w.q (Doing a x) → Stands s (i + 2) × (i + 2 ≤ past i w.q)
+  pub stands_rest : (x : DoingAction) → Shown w.p.actions w.q (Doing a x) → Next l i (i + 2)
   stands_rest x shown =
       let d = shown_doing w.p.actions w.q a x shown in
       let at = node_rest w.p.plan w.p.place i a d.0 (subst (NodeOf w.p i) d.1 w.node) in
-      (record { p = w.p; is = w.is; q = d.0; node = at }, omega (arith, ap (λ u. length (encode u)) d.1))
+      next (i + 2) d.0 at (omega arith) (omega (arith, ap (λ u. length (encode u)) d.1))
 
   module _ (x : ReadingAction) (shown : Shown w.p.actions w.q (Reading a x)) where
     -- the plan for true of a reading node
-    pub stands_true : Stands s (i + 2) × (i + 2 ≤ past i w.q)
+    pub stands_true : Next l i (i + 2)
     stands_true =
         let b = branches w.p i w.q w.node a x shown in
-        (record { p = w.p; is = w.is; q = b.0; node = b.2 }, omega (arith, ap (λ u. length (encode u)) b.4))
+        next (i + 2) b.0 b.2 (omega arith) (omega (arith, ap (λ u. length (encode u)) b.4))
 
     -- the plan for false
-    pub stands_false : (middle : ℕ) → ((u : Plan) → NodeOf w.p (i + 2) u → middle ≡ past (i + 2) u) → Stands s middle × (i + 2 ≤ middle) × (middle ≤ past i w.q)
+    pub stands_false : (middle : ℕ) → ((u : Plan) → NodeOf w.p (i + 2) u → middle ≡ past (i + 2) u) → Next l i middle
     stands_false middle first =
         let b = branches w.p i w.q w.node a x shown in
-        let to = first b.0 b.2 in (
-          record { p = w.p; is = w.is; q = b.1; node = subst (λ (j : ℕ). NodeOf w.p j b.1) (sym to) b.3 },
-          omega (arith, to),
-          omega (arith, to, ap (λ u. length (encode u)) b.4, length-append (encode b.0) (encode b.1)),
-        )
+        let to = first b.0 b.2 in
+        next middle b.1 (subst (λ (j : ℕ). NodeOf w.p j b.1) (sym to) b.3)
+        (omega (arith, to))
+        (omega (arith, to, ap (λ u. length (encode u)) b.4, length-append (encode b.0) (encode b.1)))

@@ -1,11 +1,10 @@
 // The rows of a loaded procedure.
 ghost use Rattle.std.specs.Prelude.{◌≡◌, ℕ, ◌≤◌, Bool, true, take, drop, IfOk, Ok, Err, MatchResult};
-ghost use Rattle.plans.specs.Trees.{Plan, NodeAt};
-ghost use Rattle.procedure.specs.Procedures.{Procedure, procedure_of};
 ghost use Rattle.meaning.specs.Laws.{RowList, Safe, Exact, Only};
 ghost use Rattle.meaning.specs.Rows.{rows_of};
 ghost use Rattle.meaning.specs.Steps.{tree_of};
 ghost use Rattle.regression.specs.Roots.{Stands, RowsAt};
+ghost use Rattle.procedure.specs.Asked.{IfLoads, IfNode};
 
 use crate::arrays::{Gathered, Listed};
 use crate::doing::doing_rows;
@@ -16,7 +15,7 @@ use meaning::nodes::{Node, node_at};
 use procedure::loaded::Loaded;
 
 // The rows of a subplan, and the place just past it.
-#[derive(Clone, Copy)]
+#[derive(Drop)]
 struct Rooted {
     listed: Listed,
     end: usize,
@@ -27,20 +26,20 @@ struct Rooted {
 // bytes; the lent candidates are worked over by each node in turn.
 fn rows_at(loaded: &Loaded, place: usize, gathered: &mut Gathered) -> Result<Rooted, Fault>
     requires { Stands loaded.now.file.now place }
-    ensures { (p : Procedure) → procedure_of loaded.now.file.now ≡ Ok p → (q : Plan) → NodeAt p.place p.plan place q → RowsAt p place q result }
+    ensures { IfLoads loaded.now (λ p. IfNode p place (λ q. RowsAt p place q result)) }
 {
     match node_at(loaded, place) {
         Node::End => Ok(Rooted {
-            listed: Listed::of(&[loaded.goal().row()]),
+            listed: Listed::of(&[loaded.goal().into()]),
             end: place + 1,
         }),
         Node::Gap => Ok(Rooted {
-            listed: Listed::of(&[]),
+            listed: Listed::new(),
             end: place + 1,
         }),
         Node::Doing { number: _, action } => {
             let rest = rows_at(loaded, place + 2, gathered)?;
-            let listed = doing_rows(gathered, rest.listed.as_slice(), action, place)?;
+            let listed = doing_rows(gathered, &rest.listed, action, place)?;
             Ok(Rooted {
                 listed,
                 end: rest.end,
@@ -49,9 +48,7 @@ fn rows_at(loaded: &Loaded, place: usize, gathered: &mut Gathered) -> Result<Roo
         Node::Reading { number: _, action } => {
             let on = rows_at(loaded, place + 2, gathered)?;
             let off = rows_at(loaded, on.end, gathered)?;
-            let trues = on.listed.as_slice();
-            let falses = off.listed.as_slice();
-            let listed = reading_rows(gathered, trues, falses, action, place)?;
+            let listed = reading_rows(gathered, &on.listed, &off.listed, action, place)?;
             Ok(Rooted {
                 listed,
                 end: off.end,
@@ -66,15 +63,15 @@ fn rows_at(loaded: &Loaded, place: usize, gathered: &mut Gathered) -> Result<Roo
 // agree with the set ends well (`safe`). A partial state is covered by one of them exactly when the walk from it along every
 // agreeing list ends well (`exact`), and of no other list of rows can that be said (`only`).
 pub fn rows(loaded: &Loaded, out: &mut [Row; 16]) -> Result<usize, Fault>
-    ensures value { (p : Procedure) → procedure_of loaded.now.file.now ≡ Ok p → MatchResult result (λ m. (rows_of p.goal (tree_of p) ≡ Ok (take m out.new)) × (m ≤ 16) × (drop m out.new ≡ drop m out.old)) (λ e. (rows_of p.goal (tree_of p) ≡ Err e) × (out.new ≡ out.old)) }
-    ensures list { (p : Procedure) → procedure_of loaded.now.file.now ≡ Ok p → IfOk result (λ m. RowList (take m out.new)) }
-    ensures safe { (p : Procedure) → procedure_of loaded.now.file.now ≡ Ok p → IfOk result (λ m. (K : ℕ → Bool) → Safe p.goal (tree_of p) (take m out.new) (λ w. K w ≡ true)) }
-    ensures exact { (p : Procedure) → procedure_of loaded.now.file.now ≡ Ok p → IfOk result (λ m. Exact p.goal (tree_of p) (take m out.new)) }
-    ensures only { (p : Procedure) → procedure_of loaded.now.file.now ≡ Ok p → IfOk result (λ m. Only p.goal (tree_of p) (take m out.new)) }
+    ensures value { IfLoads loaded.now (λ p. MatchResult result (λ m. (rows_of p.goal (tree_of p) ≡ Ok (take m out.new)) × (m ≤ 16) × (drop m out.new ≡ drop m out.old)) (λ e. (rows_of p.goal (tree_of p) ≡ Err e) × (out.new ≡ out.old))) }
+    ensures list { IfLoads loaded.now (λ p. IfOk result (λ m. RowList (take m out.new))) }
+    ensures safe { IfLoads loaded.now (λ p. IfOk result (λ m. (K : ℕ → Bool) → Safe p.goal (tree_of p) (take m out.new) (λ w. K w ≡ true))) }
+    ensures exact { IfLoads loaded.now (λ p. IfOk result (λ m. Exact p.goal (tree_of p) (take m out.new))) }
+    ensures only { IfLoads loaded.now (λ p. IfOk result (λ m. Only p.goal (tree_of p) (take m out.new))) }
 {
-    let mut gathered = Gathered::none();
+    let mut gathered = Gathered::new();
     let rooted = rows_at(loaded, loaded.plan().place, &mut gathered)?;
     let rows = rooted.listed.as_slice();
-    out[0..rows.len()].copy_from_slice(rows);
+    out[..rows.len()].copy_from_slice(rows);
     Ok(rows.len())
 }

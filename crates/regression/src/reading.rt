@@ -2,174 +2,142 @@
 ghost use Rattle.std.specs.Prelude.{◌≡◌, ◌+◌, ◌*◌, ◌≤◌, true, false, ◌++◌, map, length};
 ghost use Rattle.meaning.specs.Rows.{keep, allows, plus, less, joined, pairs, guarded, asked, least_rows, limited};
 ghost use Rattle.procedure.specs.Acts.{row_of};
-ghost use Rattle.regression.specs.Arrays.{list_of, gathered_in, Gives};
 
-use crate::arrays::makers::BLANK;
 use crate::arrays::{Gathered, Listed};
 use fluents::faults::Fault;
-use fluents::literals::Fluent;
-use fluents::sets::has;
+use fluents::literals::Literal;
+use fluents::sets::{has, minus};
 use knowledge::actions::ReadingAction;
 use knowledge::states::{PartialState, Row};
 
 // Whether the row does not have the fluent the other way.
-fn agrees(row: Row, fluent: Fluent, value: bool) -> bool
-    ensures { result ≡ allows fluent.index value row }
+fn agrees(row: Row, literal: Literal) -> bool
+    ensures { result ≡ allows literal.fluent.index literal.value row }
 {
-    if value {
-        !has(row.falses, fluent.index())
-    } else {
-        !has(row.trues, fluent.index())
+    let other_way = if literal.value { row.falses } else { row.trues };
+    !has(other_way, literal.fluent.index())
+}
+
+// The literals of both rows.
+fn join(a: Row, b: Row) -> Row
+    ensures { result ≡ joined a b }
+{
+    Row {
+        trues: a.trues | b.trues,
+        falses: a.falses | b.falses,
     }
 }
 
-// The row with the literal.
-fn with_literal(row: Row, fluent: Fluent, value: bool) -> Row
-    ensures { result ≡ plus fluent.index value row }
+// The row with this literal alone.
+fn alone(literal: Literal) -> Row
+    ensures { result ≡ plus literal.fluent.index literal.value (record { trues = 0; falses = 0 }) }
 {
-    let alone = fluent.alone();
-    if value {
+    let fluent = literal.fluent.alone();
+    if literal.value {
         Row {
-            trues: row.trues | alone,
-            falses: row.falses,
+            trues: fluent,
+            falses: 0,
         }
     } else {
         Row {
-            trues: row.trues,
-            falses: row.falses | alone,
+            trues: 0,
+            falses: fluent,
         }
     }
 }
 
 // The row without the literal.
-fn without_literal(row: Row, fluent: Fluent, value: bool) -> Row
-    ensures { result ≡ less fluent.index value row }
+fn without(row: Row, literal: Literal) -> Row
+    ensures { result ≡ less literal.fluent.index literal.value row }
 {
-    let alone = fluent.alone();
-    if value {
-        Row {
-            trues: row.trues ^ (row.trues & alone),
-            falses: row.falses,
-        }
-    } else {
-        Row {
-            trues: row.trues,
-            falses: row.falses ^ (row.falses & alone),
-        }
+    let Row { trues, falses } = alone(literal);
+    Row {
+        trues: minus(row.trues, trues),
+        falses: minus(row.falses, falses),
     }
 }
 
 // The rows that do not have the fluent the other way.
-fn agreeing(given: &[Row], fluent: Fluent, value: bool) -> Listed
-    requires { length given.now ≤ 16 }
-    ensures { list_of result ≡ keep (allows fluent.index value) given.now }
+fn agreeing(given: &Listed, literal: Literal) -> Listed
+    ensures { result ≡ keep (allows literal.fluent.index literal.value) given.now }
 {
-    let mut rows = [BLANK; 16];
-    let mut count = 0;
-    for row in given {
-        if agrees(*row, fluent, value) {
-            rows[count] = *row;
-            count += 1;
+    let mut rows = Listed::new();
+    for row in given.as_slice() {
+        if agrees(*row, literal) {
+            rows.push(*row);
         }
     }
-    Listed { rows, count }
+    rows
 }
 
-// Adds each row with the literal, for where the value of the fluent is known.
-fn add_known(
-    gathered: &mut Gathered,
-    given: &[Row],
-    conditions: PartialState,
-    fluent: Fluent,
-    value: bool,
-)
-    requires { gathered.old.count + length given.now ≤ 288 }
-    ensures rows { gathered_in gathered.new ≡ gathered_in gathered.old ++ guarded (row_of conditions) (map (plus fluent.index value) given.now) }
-    ensures few { gathered.new.count ≤ gathered.old.count + length given.now }
+// The rows without the literal.
+fn lessened(given: &Listed, literal: Literal) -> Listed
+    ensures { result ≡ map (less literal.fluent.index literal.value) given.now }
 {
-    for row in given {
-        gathered.add(conditions, with_literal(*row, fluent, value));
+    let mut rows = Listed::new();
+    for row in given.as_slice() {
+        rows.push(without(*row, literal));
     }
+    rows
 }
 
-// Adds the row joined with each of those for false, which lose the fluent.
-fn add_joined(
-    gathered: &mut Gathered,
-    row: Row,
-    falses: &[Row],
-    conditions: PartialState,
-    fluent: Fluent,
-)
-    requires { gathered.old.count + length falses.now ≤ 288 }
-    ensures rows { gathered_in gathered.new ≡ gathered_in gathered.old ++ guarded (row_of conditions) (map (joined row) (map (less fluent.index false) falses.now)) }
-    ensures few { gathered.new.count ≤ gathered.old.count + length falses.now }
+// Adds the row joined with each of the others.
+fn add_joined(gathered: &mut Gathered, conditions: PartialState, row: Row, others: &[Row])
+    requires { length gathered.old + length others.now ≤ 288 }
+    ensures rows { gathered.new ≡ gathered.old ++ guarded (row_of conditions) (map (joined row) others.now) }
+    ensures few { length gathered.new ≤ length gathered.old + length others.now }
 {
-    for other in falses {
-        let other = without_literal(*other, fluent, false);
-        gathered.add(
-            conditions,
-            Row {
-                trues: row.trues | other.trues,
-                falses: row.falses | other.falses,
-            },
-        );
+    for other in others {
+        gathered.add(conditions, join(row, *other));
     }
 }
 
 // Adds each row for true joined with each for false, for where the value of the fluent is not known.
-fn add_pairs(
-    gathered: &mut Gathered,
-    trues: &[Row],
-    falses: &[Row],
-    conditions: PartialState,
-    fluent: Fluent,
-)
-    requires room { gathered.old.count + 16 * length trues.now ≤ 288 }
-    requires few { length falses.now ≤ 16 }
-    ensures { gathered_in gathered.new ≡ gathered_in gathered.old ++ guarded (row_of conditions) (pairs (map (less fluent.index true) trues.now) (map (less fluent.index false) falses.now)) }
+fn add_pairs(gathered: &mut Gathered, conditions: PartialState, trues: &Listed, falses: &Listed)
+    requires { length gathered.old + 16 * length trues.now ≤ 288 }
+    ensures { gathered.new ≡ gathered.old ++ guarded (row_of conditions) (pairs trues.now falses.now) }
 {
-    for row in trues {
-        let row = without_literal(*row, fluent, true);
-        add_joined(gathered, row, falses, conditions, fluent);
+    let falses = falses.as_slice();
+    for row in trues.as_slice() {
+        add_joined(gathered, conditions, *row, falses);
     }
 }
 
 // Gathers, in place of what was there, the candidates from the rows for true and those for false, with the conditions
-// of the action.
-fn ask(
-    gathered: &mut Gathered,
-    trues: &[Row],
-    falses: &[Row],
-    conditions: PartialState,
-    fluent: Fluent,
-)
-    requires few_trues { length trues.now ≤ 16 }
-    requires few_falses { length falses.now ≤ 16 }
-    ensures { gathered_in gathered.new ≡ guarded (row_of conditions) (asked fluent.index trues.now falses.now) }
+// of the action: where the value is known true, where it is known false, and where it is not known.
+fn ask(gathered: &mut Gathered, trues: &Listed, falses: &Listed, action: ReadingAction)
+    ensures { gathered.new ≡ guarded (row_of action.conditions) (asked action.fluent.index trues.now falses.now) }
 {
-    let ready_true = agreeing(trues, fluent, true);
-    let ready_false = agreeing(falses, fluent, false);
-    let trues = ready_true.as_slice();
-    let falses = ready_false.as_slice();
+    let ReadingAction { conditions, fluent } = action;
+    let is_true = Literal {
+        fluent,
+        value: true,
+    };
+    let is_false = Literal {
+        fluent,
+        value: false,
+    };
+    let trues = agreeing(trues, is_true);
+    let falses = agreeing(falses, is_false);
     gathered.clear();
-    add_known(gathered, trues, conditions, fluent, true);
-    add_known(gathered, falses, conditions, fluent, false);
-    add_pairs(gathered, trues, falses, conditions, fluent);
+    add_joined(gathered, conditions, alone(is_true), trues.as_slice());
+    add_joined(gathered, conditions, alone(is_false), falses.as_slice());
+    let trues = lessened(&trues, is_true);
+    let falses = lessened(&falses, is_false);
+    add_pairs(gathered, conditions, &trues, &falses);
 }
 
 // The rows of a node that reads by the action, from those for true and those for false; or a refusal where they are
 // over 16.
 pub(crate) fn reading_rows(
     gathered: &mut Gathered,
-    trues: &[Row],
-    falses: &[Row],
+    trues: &Listed,
+    falses: &Listed,
     action: ReadingAction,
     place: usize,
 ) -> Result<Listed, Fault>
-    requires few_trues { length trues.now ≤ 16 }
-    requires few_falses { length falses.now ≤ 16 }
-    ensures { Gives (limited place (least_rows (guarded (row_of action.conditions) (asked action.fluent.index trues.now falses.now)))) result }
+    ensures { result ≡ limited place (least_rows (guarded (row_of action.conditions) (asked action.fluent.index trues.now falses.now))) }
 {
-    ask(gathered, trues, falses, action.conditions, action.fluent);
+    ask(gathered, trues, falses, action);
     gathered.least(place)
 }

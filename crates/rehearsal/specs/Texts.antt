@@ -1,6 +1,6 @@
 -- The text of a line of the record, byte by byte. Assumes nothing.
 use Rattle.std.specs.Prelude.{ℕ, cond, List, ◌++◌, codes, decimal}
-use Rattle.fluents.specs.Refusals.{number_of}
+use Rattle.fluents.specs.Refusals.{fault_text}
 use Rattle.meaning.specs.Causes.{cause_number}
 use Rattle.meaning.specs.Texts.{verdict_text}
 use Rattle.rehearsal.specs.declared.lines.Line.{Line}
@@ -19,6 +19,5 @@ line_text (Settled value) = codes "settled " ++ cond value (codes "true") (codes
 line_text Withdrawn = codes "withdrawn"
 line_text NoneLeft = codes "no reading left: withdrawn"
 line_text EndedWell = codes "ended well"
-line_text (Refused fault) = codes "refused " ++ (decimal (number_of fault.refusal) ++ (codes " " ++ decimal fault.place))
-line_text (Unarmed fault cause) =
-    codes "refused " ++ (decimal (number_of fault.refusal) ++ (codes " " ++ (decimal fault.place ++ (codes ", cause " ++ decimal (cause_number cause)))))
+line_text (Refused fault) = fault_text fault
+line_text (Unarmed why) = fault_text why.fault ++ (codes ", cause " ++ decimal (cause_number why.cause))

@@ -1,9 +1,10 @@
 // The lines of a record, and the record.
-ghost use Rattle.std.specs.Prelude.{◌≡◌, true, ◌++◌, Some, string_bytes, codes};
+ghost use Rattle.std.specs.Prelude.{◌≡◌, ◌++◌, [], Some, IfOk, IsOkAnd, string_bytes, codes};
 ghost use Rattle.rehearsal.specs.Texts.{line_text};
 
 use fluents::faults::Fault;
-use meaning::answers::{Cause, Verdict};
+use meaning::answers::Verdict;
+use panel::answers::Rejection;
 use std::alloc::{AllocError, Global};
 use std::fmt;
 use std::fmt::Write;
@@ -33,10 +34,7 @@ pub enum Line {
     NoneLeft,
     EndedWell,
     Refused(Fault),
-    Unarmed {
-        fault: Fault,
-        cause: Cause,
-    },
+    Unarmed(Rejection),
 }
 
 // The line in words, without its break.
@@ -62,49 +60,45 @@ impl fmt::Display for Line {
             Line::Withdrawn => write!(f, "withdrawn"),
             Line::NoneLeft => write!(f, "no reading left: withdrawn"),
             Line::EndedWell => write!(f, "ended well"),
-            Line::Refused(fault) => {
-                let number = fault.number();
-                let place = fault.place;
-                write!(f, "refused {number} {place}")
-            }
-            Line::Unarmed { fault, cause } => {
-                let number = fault.number();
-                let place = fault.place;
-                let cause = cause.number();
-                write!(f, "refused {number} {place}, cause {cause}")
+            Line::Refused(fault) => write!(f, "{fault}"),
+            Line::Unarmed(Rejection { fault, cause }) => {
+                write!(f, "{fault}, cause {}", cause.number())
             }
         }
     }
 }
 
-// The text so far, and whether no line of it was lost for want of memory.
+// The text so far, or that memory ran out and a line was lost.
 #[derive(Drop)]
 pub struct Record {
-    text: String,
-    whole: bool,
+    text: Result<String, AllocError>,
 }
 
 impl Record {
-    pub fn new(heap: Global) -> Record {
+    pub fn new(heap: Global) -> Record
+        ensures { IsOkAnd result.text (λ text. string_bytes text ≡ []) }
+    {
         Record {
-            text: String::new(heap),
-            whole: true,
+            text: Ok(String::new(heap)),
         }
     }
 
-    // Adds a line and its break. That it was lost is said at the end, so that a run is never broken off for it.
+    // Adds a line and its break. That one was lost is said at the end, so that a run is never broken off for it.
     pub fn say(&mut self, line: Line)
-        ensures { self.new.whole ≡ true → (self.old.whole ≡ true) × (string_bytes self.new.text ≡ string_bytes self.old.text ++ (line_text line ++ codes "\n")) }
+        ensures { IfOk self.new.text (λ after. IsOkAnd self.old.text (λ before. string_bytes after ≡ string_bytes before ++ (line_text line ++ codes "\n"))) }
     {
-        let written = write!(self.text, "{line}\n");
-        if written.is_err() {
-            self.whole = false;
+        if let Ok(text) = &mut self.text {
+            if let Err(e) = write!(text, "{line}\n") {
+                self.text = Err(e);
+            }
         }
     }
 
     // The whole text, or that memory ran out.
-    pub fn text(self) -> Result<String, AllocError> {
-        let Record { text, whole } = self;
-        if whole { Ok(text) } else { Err(AllocError) }
+    pub fn text(self) -> Result<String, AllocError>
+        ensures { result ≡ self.text }
+    {
+        let Record { text } = self;
+        text
     }
 }

@@ -1,50 +1,64 @@
 // How the readings of a visit are to be settled, as the arguments say it.
-ghost use Rattle.std.specs.Prelude.{◌≡◌, MatchOption, ◌≢◌};
-ghost use Rattle.rehearsal.specs.Words.{word_of};
+ghost use Rattle.std.specs.Prelude.{◌≡◌, MatchResult, ◌≢◌};
+ghost use Rattle.rehearsal.specs.Words.{word_of, IsMemory};
 ghost use Rattle.rehearsal.specs.declared.settlements.Settlement.{Settlement};
 
-use std::alloc::{AllocError, Global};
+use std::alloc::{AllocError, AllocFailed, Global};
 use std::env::Args;
+use std::str::FromStr;
 
 // What is done at a reading: a value is settled, or the reading is withdrawn.
 #[derive(Clone, Copy, PartialEq, Eq, Debug)]
 pub enum Settlement {
-    True,
-    False,
+    Value(bool),
     Withdraw,
 }
 
-// All arguments, or the first that is not allowed.
-#[derive(Drop)]
-pub enum Parsed {
-    Settlements(Vec<Settlement>),
-    Bad(String),
+// A word that names no settlement.
+#[derive(Clone, Copy, PartialEq, Eq, Debug)]
+pub struct UnknownWord;
+
+// The settlement that the word names; an error exactly where it names none.
+impl FromStr for Settlement {
+    type Err = UnknownWord;
+
+    ghost from_str_gives = { λ word r. MatchResult r (λ s. word ≡ word_of s) (λ _. (s : Settlement) → word ≢ word_of s) };
+
+    fn from_str(word: &str) -> Result<Settlement, UnknownWord> {
+        match word {
+            "true" => Ok(Settlement::Value(true)),
+            "false" => Ok(Settlement::Value(false)),
+            "withdraw" => Ok(Settlement::Withdraw),
+            _ => Err(UnknownWord),
+        }
+    }
 }
 
-// The settlement that the word names, or none exactly where it names none.
-fn settlement_of(word: &str) -> Option<Settlement>
-    ensures { MatchOption result ((s : Settlement) → word.now ≢ word_of s) (λ s. word.now ≡ word_of s) }
-{
-    match word {
-        "true" => Some(Settlement::True),
-        "false" => Some(Settlement::False),
-        "withdraw" => Some(Settlement::Withdraw),
-        _ => None,
+// Why the arguments are not taken: the first word that is not allowed, or memory ran out.
+#[derive(Drop)]
+pub enum ParseError {
+    Word(String),
+    Memory(AllocError),
+}
+
+impl<T: Drop> From<AllocFailed<T>> for ParseError {
+    ghost from_gives = { λ _ r. IsMemory r };
+
+    fn from(e: AllocFailed<T>) -> ParseError {
+        ParseError::Memory(e.into())
     }
 }
 
 // The settlements that the arguments name; the first argument, the program's own name, is passed over.
-pub fn parse(heap: Global, args: Args) -> Result<Parsed, AllocError> {
+pub fn parse(heap: Global, args: Args) -> Result<Vec<Settlement>, ParseError> {
     let mut settlements = Vec::new(heap);
-    let mut args = args;
-    drop(args.next());
-    for word in args {
-        match settlement_of(word.as_str()) {
-            Some(settlement) => settlements.push(settlement)?,
-            None => return Ok(Parsed::Bad(word)),
-        }
+    for word in args.skip(1) {
+        let Ok(settlement) = word.as_str().parse() else {
+            return Err(ParseError::Word(word));
+        };
+        settlements.push(settlement)?;
     }
-    Ok(Parsed::Settlements(settlements))
+    Ok(settlements)
 }
 
 #[cfg(test)]
@@ -53,10 +67,10 @@ mod tests {
 
     #[test]
     fn only_three_words_are_settlements(rt: HostRuntime) {
-        assert_eq!(rt; settlement_of("true"), Some(Settlement::True));
-        assert_eq!(rt; settlement_of("false"), Some(Settlement::False));
-        assert_eq!(rt; settlement_of("withdraw"), Some(Settlement::Withdraw));
-        assert_eq!(rt; settlement_of("True"), None);
-        assert_eq!(rt; settlement_of(""), None);
+        assert_eq!(rt; "true".parse::<Settlement>(), Ok(Settlement::Value(true)));
+        assert_eq!(rt; "false".parse::<Settlement>(), Ok(Settlement::Value(false)));
+        assert_eq!(rt; "withdraw".parse::<Settlement>(), Ok(Settlement::Withdraw));
+        assert_eq!(rt; "True".parse::<Settlement>(), Err(UnknownWord));
+        assert_eq!(rt; "".parse::<Settlement>(), Err(UnknownWord));
     }
 }

@@ -1,13 +1,13 @@
 // A whole visit to the panel: Select, Load, Arm, and Confirm until the run has ended.
-ghost use Rattle.rehearsal.specs.Permits.{SameWord, Lowered, TurnedAs};
+ghost use Rattle.panel.specs.Confirming.{GivenBack};
+ghost use Rattle.rehearsal.specs.Permits.{SameWord, TurnedAs};
 
 use crate::lines::{Line, Record};
 use crate::settlements::Settlement;
 use frames::selected::Selected;
 use knowledge::worlds::WorldList;
-use panel::answers::{Confirmed, Denied, Over, Settled};
+use panel::answers::{Confirmed, Denied, Over};
 use panel::armed::Armed;
-use panel::armed::keys::Unarmed;
 use panel::known::Known;
 use panel::reading::Reading;
 use procedure::loaded::Loaded;
@@ -16,51 +16,43 @@ use procedure::starts::Start;
 use runs::follow::follow;
 use std::alloc::{AllocError, Global};
 
-// How a run stands after a reading.
-enum Turn<'f, 'w> {
-    Goes(Armed<'f, 'w>),
-    Stops(Over<'f, 'w>),
-}
-
-// Settles the reading with the value, which may be refused.
-fn settle<'f, 'w>(reading: Reading<'f, 'w>, value: bool, record: &mut Record) -> Turn<'f, 'w>
+// Settles the reading with the value: the run goes on, or the value is refused and has ended it.
+fn settle<'f, 'w>(
+    reading: Reading<'f, 'w>,
+    value: bool,
+    record: &mut Record,
+) -> Result<Armed<'f, 'w>, Over<'f, 'w>>
     ensures { TurnedAs reading.entry result }
 {
     match reading.settle(value) {
-        Settled::Goes(armed) => {
+        Ok(armed) => {
             record.say(Line::Settled(value));
-            Turn::Goes(armed)
+            Ok(armed)
         }
-        Settled::Refused(denied) => {
-            let Denied {
-                loaded,
-                word,
-                fault,
-            } = denied;
+        Err(Denied { over, fault }) => {
             record.say(Line::Refused(fault));
-            Turn::Stops(Over { loaded, word })
+            Err(over)
         }
     }
 }
 
-// Answers the reading as the visitor does; without a settlement it is withdrawn.
+// Answers the reading as the visitor does; without a settlement it is withdrawn. The run goes on, or it has ended.
 fn answer<'f, 'w>(
     reading: Reading<'f, 'w>,
     settlement: Option<&Settlement>,
     record: &mut Record,
-) -> Turn<'f, 'w>
+) -> Result<Armed<'f, 'w>, Over<'f, 'w>>
     ensures { TurnedAs reading.entry result }
 {
     match settlement {
-        Some(Settlement::True) => settle(reading, true, record),
-        Some(Settlement::False) => settle(reading, false, record),
+        Some(Settlement::Value(value)) => settle(reading, *value, record),
         Some(Settlement::Withdraw) => {
             record.say(Line::Withdrawn);
-            Turn::Stops(reading.withdraw())
+            Err(reading.withdraw())
         }
         None => {
             record.say(Line::NoneLeft);
-            Turn::Stops(reading.withdraw())
+            Err(reading.withdraw())
         }
     }
 }
@@ -71,7 +63,7 @@ fn confirm_all<'f, 'w>(
     settlements: &[Settlement],
     record: &mut Record,
 ) -> Over<'f, 'w>
-    ensures { Lowered armed.entry.permit result.word }
+    ensures { GivenBack armed.entry.permitted result }
 {
     let mut armed = armed;
     let mut settlements = settlements.iter();
@@ -94,8 +86,8 @@ fn confirm_all<'f, 'w>(
                     fluent,
                 });
                 match answer(reading, settlements.next(), record) {
-                    Turn::Goes(next) => armed = next,
-                    Turn::Stops(over) => return over,
+                    Ok(next) => armed = next,
+                    Err(over) => return over,
                 }
             }
             Confirmed::Ended(over) => {
@@ -125,14 +117,8 @@ fn arm_and_confirm<'w>(
             word
         }
         Err(unarmed) => {
-            let Unarmed {
-                loaded: _,
-                start: _,
-                word,
-                fault,
-                cause,
-            } = unarmed;
-            record.say(Line::Unarmed { fault, cause });
+            record.say(Line::Unarmed(unarmed.why));
+            let Over { loaded: _, word } = unarmed.over;
             word
         }
     }
@@ -148,7 +134,7 @@ fn attend<'w>(
     ensures { SameWord word.entry result }
 {
     let selected = match Selected::select(file) {
-        Ok(selected) => selected.take(),
+        Ok(selected) => selected,
         Err(fault) => {
             record.say(Line::Refused(fault));
             return word;
@@ -158,7 +144,7 @@ fn attend<'w>(
     let mut list = WorldList::single(0);
     match Loaded::load(selected, &mut list) {
         Ok(opened) => {
-            let Opened { loaded, start } = opened.take();
+            let Opened { loaded, start } = opened;
             let known = match start {
                 Start::Partial(state) => Known::Partial(state),
                 Start::Worlds => Known::Worlds(list),
@@ -171,7 +157,7 @@ fn attend<'w>(
             arm_and_confirm(loaded, known, settlements, word, record)
         }
         Err(unloaded) => {
-            record.say(Line::Refused(unloaded.take().fault));
+            record.say(Line::Refused(unloaded.fault));
             word
         }
     }

@@ -5,8 +5,7 @@ use Rattle.plans.specs.Trees.{encode}
 use Rattle.procedure.specs.Procedures.{Procedure, Known, partly, worlds}
 use Rattle.procedure.specs.declared.starts.Start.{Start}
 use Rattle.procedure.specs.declared.starts.Start.TheVariants.{Partial as PartialStart, Worlds as WorldStart}
-use Rattle.report.specs.declared.text.Report.{Report}
-use Rattle.report.specs.declared.text.Report.TheVariants.{Loaded, Refused}
+use Rattle.report.specs.declared.text.Summary.{Summary}
 use Rattle.report.specs.declared.text.StartKind.{StartKind}
 use Rattle.report.specs.declared.text.StartKind.TheVariants.{Partial, Worlds}
 
@@ -19,6 +18,6 @@ abbrev pub kind_seen : Start → StartKind
 kind_seen (PartialStart state) = Partial
 kind_seen WorldStart = Worlds
 
-abbrev pub report_of : Result Procedure Fault → Report
-report_of (Ok p) = Loaded p.n (length p.actions) (length (encode p.plan)) (kind_of p.start)
-report_of (Err fault) = Refused fault
+abbrev pub report_of : Result Procedure Fault → Result Summary Fault
+report_of (Ok p) = Ok (record { fluents = p.n; actions = length p.actions; plan_bytes = length (encode p.plan); start = kind_of p.start })
+report_of (Err fault) = Err fault

@@ -3,45 +3,25 @@
 
 ghost use Rattle.std.specs.Prelude.{◌≡◌};
 ghost use Rattle.procedure.specs.Procedures.{procedure_of};
-ghost use Rattle.report.specs.Reports.{report_of, kind_seen};
+ghost use Rattle.report.specs.Reports.{report_of};
 
-use frames::selected::Selected;
+use fluents::faults::Fault;
 use knowledge::worlds::WorldList;
-use procedure::loaded::Loaded;
-use procedure::starts::Start;
-use text::{Report, StartKind};
+use procedure::loaded::reader::open;
+use text::Summary;
 
 pub mod text;
 
-// The kind of a start.
-fn kind_of(start: Start) -> StartKind
-    ensures { result ≡ kind_seen start }
-{
-    match start {
-        Start::Partial(_) => StartKind::Partial,
-        Start::Worlds => StartKind::Worlds,
-    }
-}
-
 // What is to be said about the file with these bytes.
-pub fn report(file: &[u8]) -> Report
+pub fn report(file: &[u8]) -> Result<Summary, Fault>
     ensures { result ≡ report_of (procedure_of file.now) }
 {
-    let selected = match Selected::select(file) {
-        Ok(selected) => selected.take(),
-        Err(fault) => return Report::Refused(fault),
-    };
     let mut list = WorldList::single(0);
-    match Loaded::load(selected, &mut list) {
-        Ok(opened) => {
-            let opened = opened.take();
-            Report::Loaded {
-                fluents: opened.loaded.n(),
-                actions: opened.loaded.actions(),
-                plan_bytes: opened.loaded.plan().bytes.len(),
-                start: kind_of(opened.start),
-            }
-        }
-        Err(unloaded) => Report::Refused(unloaded.take().fault),
-    }
+    let opened = open(file, &mut list)?;
+    Ok(Summary {
+        fluents: opened.loaded.n(),
+        actions: opened.loaded.actions(),
+        plan_bytes: opened.loaded.plan().bytes.len(),
+        start: opened.start.into(),
+    })
 }

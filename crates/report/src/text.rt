@@ -1,8 +1,10 @@
 // A report on a procedure file, and its text: one line, without the line break.
 ghost use Rattle.std.specs.Prelude.{◌≡◌, IfOk, Some, string_bytes};
-ghost use Rattle.report.specs.Lines.{word_of, line_of};
+ghost use Rattle.report.specs.Lines.{word_of, summary_text, line_of};
+ghost use Rattle.report.specs.Reports.{kind_seen};
 
 use fluents::faults::Fault;
+use procedure::starts::Start;
 use std::alloc::{AllocError, Global};
 use std::fmt;
 
@@ -13,16 +15,15 @@ pub enum StartKind {
     Worlds,
 }
 
-// Either the file was loaded, with so many fluents, actions and plan bytes, or it was refused.
-#[derive(Clone, Copy, PartialEq, Eq, Debug)]
-pub enum Report {
-    Loaded {
-        fluents: u8,
-        actions: usize,
-        plan_bytes: usize,
-        start: StartKind,
-    },
-    Refused(Fault),
+impl From<Start> for StartKind {
+    ghost from_gives = { λ start kind. kind ≡ kind_seen start };
+
+    fn from(start: Start) -> StartKind {
+        match start {
+            Start::Partial(_) => StartKind::Partial,
+            Start::Worlds => StartKind::Worlds,
+        }
+    }
 }
 
 // The word `partial` or `worlds`.
@@ -37,32 +38,38 @@ impl fmt::Display for StartKind {
     }
 }
 
-// `loaded` with the fluents, actions, plan bytes and start, or `refused` with the number and place.
-impl fmt::Display for Report {
-    ghost output = { λ report. Some (line_of report) };
+// What a loaded file has.
+#[derive(Clone, Copy, PartialEq, Eq, Debug)]
+pub struct Summary {
+    pub fluents: u8,
+    pub actions: usize,
+    pub plan_bytes: usize,
+    pub start: StartKind,
+}
+
+// `loaded` with the fluents, actions, plan bytes and start.
+impl fmt::Display for Summary {
+    ghost output = { λ summary. Some (summary_text summary) };
 
     fn fmt<W: fmt::Write>(&self, f: &mut fmt::Formatter<W>) -> fmt::Result {
-        match self {
-            Report::Loaded {
-                fluents,
-                actions,
-                plan_bytes,
-                start,
-            } => write!(f, "loaded {fluents} {actions} {plan_bytes} {start}"),
-            Report::Refused(fault) => {
-                let number = fault.number();
-                let place = fault.place;
-                write!(f, "refused {number} {place}")
-            }
-        }
+        let Summary {
+            fluents,
+            actions,
+            plan_bytes,
+            start,
+        } = self;
+        write!(f, "loaded {fluents} {actions} {plan_bytes} {start}")
     }
 }
 
-// The line as a text of its own.
-pub fn line(heap: Global, report: &Report) -> Result<String, AllocError>
+// The line as a text of its own: what the file has, or why it was refused.
+pub fn line(heap: Global, report: &Result<Summary, Fault>) -> Result<String, AllocError>
     ensures { IfOk result (λ s. string_bytes s ≡ line_of report.now) }
 {
-    format!(in heap; "{report}")
+    match report {
+        Ok(summary) => format!(in heap; "{summary}"),
+        Err(fault) => format!(in heap; "{fault}"),
+    }
 }
 
 #[cfg(test)]
@@ -73,24 +80,21 @@ mod tests {
 
     #[test]
     fn a_loaded_file_is_counted(rt: HostRuntime) -> Result<(), Fail> {
-        let report = Report::Loaded {
+        let summary = Summary {
             fluents: 3,
             actions: 5,
             plan_bytes: 10,
             start: StartKind::Worlds,
         };
-        let text = line(rt.alloc(), &report)?;
+        let text = line(rt.alloc(), &Ok(summary))?;
         assert_eq!(rt; text.as_str(), "loaded 3 5 10 worlds");
         Ok(())
     }
 
     #[test]
     fn a_refused_file_has_number_and_place(rt: HostRuntime) -> Result<(), Fail> {
-        let report = Report::Refused(Fault {
-            refusal: Refusal::TooManyReadings,
-            place: 65535,
-        });
-        let text = line(rt.alloc(), &report)?;
+        let fault = Refusal::TooManyReadings.at(65535);
+        let text = line(rt.alloc(), &Err(fault))?;
         assert_eq!(rt; text.as_str(), "refused 7 65535");
         Ok(())
     }

@@ -1,5 +1,5 @@
 -- What lasts from step to step of following: the branches that are still ahead. Assumes nothing.
-use Rattle.std.proofs.Common.{◌≡◌, ℕ, suc, ◌+◌, ◌<◌, ◌≤◌, Bool, true, false, List, [], ◌∷◌, length, Ok, sym, refl, ap, ◌∙◌, subst, inl, inr, arith, length-append}
+use Rattle.std.proofs.Common.{◌≡◌, ℕ, ◌+◌, ◌<◌, ◌≤◌, Bool, true, false, List, [], ◌∷◌, length, Ok, sym, refl, ap, ◌∙◌, subst, inl, inr, arith, length-append}
 use Rattle.knowledge.specs.declared.states.Row.{Row}
 use Rattle.plans.specs.Trees.{Plan, finish, act, ask, gap, encode, past, readings, NodeAt}
 use Rattle.plans.proofs.Codes.{some_bytes}
@@ -13,63 +13,46 @@ use Rattle.meaning.specs.declared.answers.Verdict.{Verdict}
 use Rattle.meaning.specs.declared.answers.Verdict.TheVariants.{Holds, Fails}
 use Rattle.meaning.proofs.Following.{follows_same}
 use Rattle.runs.specs.Stepping.{Stepped, InBranch, Branched, branch}
+use Rattle.runs.specs.declared.pending.Branches.{Branches}
 use Rattle.runs.specs.declared.pending.Branches.TheVariants.{One, Both}
 use Rattle.runs.specs.declared.pending.Pending.{Pending}
 use Rattle.runs.specs.declared.run.Run.{Run}
 use Rattle.runs.specs.declared.run.Step.{Step}
 use Rattle.runs.specs.declared.run.Step.TheVariants.{Did, Asks, Ended, Failed}
-use Rattle.runs.proofs.Along.{doing_tree, reading_tree, Doing, at_doing, Asking, at_asking, pick, branch_further, branch_tree, node_branch, asking_node}
+use Rattle.runs.proofs.Along.{Promised, doing_tree, reading_tree, Doing, at_doing, Asking, at_asking, pick, branch_further, branch_tree, node_branch, asking_node}
 
--- ---- the waiting runs: the one in the slot below so many stands at the plan, and so on down
+-- ---- the waiting runs, the last that came first, each with its plan
 
 module _ {A : Type 0} (worlds : A → ℕ → Type 0) (p : Procedure) where
-  -- Each stands at its plan, behind the place e; the plan of the one below stands behind its end; and there is room for its readings.
-  abbrev pub Lies : (ℕ → Run A) → ℕ → List Plan → Type 0
-  Lies slots e [] = Unit {0}
-  Lies slots e (q ∷ qs) =
-      NodeAt p.place p.plan (slots (length qs)).place q × (e ≤ (slots (length qs)).place) × (length qs + readings q ≤ 8) × Lies slots (past (slots (length qs)).place q) qs
+  -- Each stands at its plan, behind the place e; the plan of the next stands behind its end; and there is room for its readings.
+  abbrev pub Lies : ℕ → List (Run A) → List Plan → Type 0
+  Lies e [] [] = Unit {0}
+  Lies e [] (q ∷ qs) = ⊥
+  Lies e (r ∷ rs) [] = ⊥
+  Lies e (r ∷ rs) (q ∷ qs) = NodeAt p.place p.plan r.place q × (e ≤ r.place) × (length rs + readings q ≤ 8) × Lies (past r.place q) rs qs
 
   -- the verdict of following what waits, the last first
-  abbrev pub Rest : (ℕ → Run A) → List Plan → Verdict → Type 0
-  Rest slots [] v = v ≡ Holds
-  Rest slots (q ∷ qs) v =
-      (u : Verdict) × Follows p.goal (steps_of p.actions (slots (length qs)).place q) (worlds (slots (length qs)).knowledge) u × Then u (Rest slots qs v) v
+  abbrev pub Rest : List (Run A) → List Plan → Verdict → Type 0
+  Rest (r ∷ rs) (q ∷ qs) v = (u : Verdict) × Follows p.goal (steps_of p.actions r.place q) (worlds r.knowledge) u × Then u (Rest rs qs v) v
+  Rest [] qs v = v ≡ Holds
+  Rest (r ∷ rs) [] v = v ≡ Holds
 
-  -- what is behind slots that stay is as it was
-  pub lies_kept : (slots later : ℕ → Run A) (e : ℕ) (qs : List Plan) → ((j : ℕ) → j < length qs → later j ≡ slots j) → Lies slots e qs → Lies later e qs
-  lies_kept slots later e [] same h = tt
-  lies_kept slots later e (q ∷ qs) same (at, behind, room, rest) =
-      let one : slots (length qs) ≡ later (length qs) = sym (same (length qs) (omega arith)) in (
-        subst (λ r. NodeAt p.place p.plan r.place q) one at,
-        subst (λ r. e ≤ r.place) one behind,
-        room,
-        subst (λ r. Lies later (past r.place q) qs) one (lies_kept slots later (past (slots (length qs)).place q) qs (λ j h. same j (omega arith)) rest),
-      )
-
-  pub rest_kept : (slots later : ℕ → Run A) (qs : List Plan) (v : Verdict) → ((j : ℕ) → j < length qs → later j ≡ slots j) → Rest later qs v → Rest slots qs v
-  rest_kept slots later [] v same h = h
-  rest_kept slots later (q ∷ qs) v same (Holds, f, next) =
-      let one : later (length qs) ≡ slots (length qs) = same (length qs) (omega arith) in
-      (Holds, subst (λ r. Follows p.goal (steps_of p.actions r.place q) (worlds r.knowledge) Holds) one f, rest_kept slots later qs v (λ j h. same j (omega arith)) next)
-  rest_kept slots later (q ∷ qs) v same (Fails place cause, f, next) =
-      let one : later (length qs) ≡ slots (length qs) = same (length qs) (omega arith) in
-      (Fails place cause, subst (λ r. Follows p.goal (steps_of p.actions r.place q) (worlds r.knowledge) (Fails place cause)) one f, next)
-
-  pub lies_behind : (slots : ℕ → Run A) (e d : ℕ) (qs : List Plan) → d ≤ e → Lies slots e qs → Lies slots d qs
-  lies_behind slots e d [] h l = tt
-  lies_behind slots e d (q ∷ qs) h (at, behind, room, rest) = (at, omega (arith, behind), room, rest)
+  pub lies_behind : (e d : ℕ) (rs : List (Run A)) (qs : List Plan) → d ≤ e → Lies e rs qs → Lies d rs qs
+  lies_behind e d [] [] h l = tt
+  lies_behind e d [] (q ∷ qs) h l = elim l [ ]
+  lies_behind e d (r ∷ rs) [] h l = elim l [ ]
+  lies_behind e d (r ∷ rs) (q ∷ qs) h (at, behind, room, rest) = (at, omega (arith, behind), room, rest)
 
 -- The run stands at a node, and the verdict from there, and then of what waits, is the verdict of the whole.
-pub record Ahead {A : Type 0} (worlds : A → ℕ → Type 0) (file : List ℕ) (start : A) (run : Run A) (slots : ℕ → Run A) (count : ℕ) : Type 0 where
+pub record Ahead {A : Type 0} (worlds : A → ℕ → Type 0) (file : List ℕ) (start : A) (run : Run A) (waiting : List (Run A)) : Type 0 where
   pub p : Procedure
   pub is : procedure_of file ≡ Ok p
   pub q : Plan
   pub at : NodeAt p.place p.plan run.place q
   pub stack : List Plan
-  pub long : length stack ≡ count
-  pub room : count + readings q ≤ 8
-  pub lies : Lies worlds p slots (past run.place q) stack
-  pub on : (v u : Verdict) → Follows p.goal (steps_of p.actions run.place q) (worlds run.knowledge) u → Then u (Rest worlds p slots stack v) v
+  pub room : length waiting + readings q ≤ 8
+  pub lies : Lies worlds p (past run.place q) waiting stack
+  pub on : (v u : Verdict) → Follows p.goal (steps_of p.actions run.place q) (worlds run.knowledge) u → Then u (Rest worlds p waiting stack v) v
       → Follows p.goal (tree_of p) (worlds start) v
 
 -- ---- the verdict at one node
@@ -78,24 +61,24 @@ module _ {A : Type 0} (worlds : A → ℕ → Type 0) (goal : Row) (acts : List 
   pub ended_follows : (q : Plan) → Stepped worlds goal acts i k q Ended → Follows goal (steps_of acts i q) (worlds k) Holds
   unfolding Follows steps_of
   ended_follows finish (inl h) = inl (h.0, refl)
-  ended_follows finish (inr h) = let z : ◌≡◌ {A = ℕ} 0 1 = cc h.1 in absurd (omega arith)
-  ended_follows (act b q) (c, add, del, found, inl h) = let z : ◌≡◌ {A = ℕ} 0 1 = cc h.1.1 in absurd (omega arith)
-  ended_follows (act b q) (c, add, del, found, inr h) = let z : ◌≡◌ {A = ℕ} 0 1 = cc h.1 in absurd (omega arith)
-  ended_follows (ask b t e) (c, f, found, inl h) = let z : ◌≡◌ {A = ℕ} 0 1 = cc h.1.1 in absurd (omega arith)
-  ended_follows (ask b t e) (c, f, found, inr h) = let z : ◌≡◌ {A = ℕ} 0 1 = cc h.1 in absurd (omega arith)
-  ended_follows gap h = let z : ◌≡◌ {A = ℕ} 0 1 = cc h in absurd (omega arith)
+  ended_follows finish (inr h) = absurd (cc h.1)
+  ended_follows (act b q) (c, add, del, found, inl h) = absurd (cc h.1.1)
+  ended_follows (act b q) (c, add, del, found, inr h) = absurd (cc h.1)
+  ended_follows (ask b t e) (c, f, found, inl h) = absurd (cc h.1.1)
+  ended_follows (ask b t e) (c, f, found, inr h) = absurd (cc h.1)
+  ended_follows gap h = absurd (cc h)
 
   failed_same : (place j : ℕ) (cause why : Cause) → ◌≡◌ {A = Step A} (Failed place cause) (Failed j why) → Fails place cause ≡ Fails j why
   failed_same place j cause why e = let p : place ≡ j = cc e in let c : cause ≡ why = cc e in cc
 
   pub failed_follows : (q : Plan) (place : ℕ) (cause : Cause) → Stepped worlds goal acts i k q (Failed place cause) → Follows goal (steps_of acts i q) (worlds k) (Fails place cause)
   unfolding Follows steps_of
-  failed_follows finish place cause (inl h) = let z : ◌≡◌ {A = ℕ} 0 1 = cc h.1 in absurd (omega arith)
+  failed_follows finish place cause (inl h) = absurd (cc h.1)
   failed_follows finish place cause (inr h) = inr (h.0, failed_same place i cause _ h.1)
-  failed_follows (act b q) place cause (c, add, del, found, inl h) = let z : ◌≡◌ {A = ℕ} 0 1 = cc h.1.1 in absurd (omega arith)
+  failed_follows (act b q) place cause (c, add, del, found, inl h) = absurd (cc h.1.1)
   failed_follows (act b q) place cause (c, add, del, found, inr h) =
       subst (λ t. Follows goal t (worlds k) (Fails place cause)) (sym (doing_tree acts i b q c add del found)) (inr (h.0, failed_same place i cause _ h.1))
-  failed_follows (ask b t e) place cause (c, f, found, inl h) = let z : ◌≡◌ {A = ℕ} 0 1 = cc h.1.1 in absurd (omega arith)
+  failed_follows (ask b t e) place cause (c, f, found, inl h) = absurd (cc h.1.1)
   failed_follows (ask b t e) place cause (c, f, found, inr h) =
       subst (λ t. Follows goal t (worlds k) (Fails place cause)) (sym (reading_tree acts i b t e c f found)) (inr (h.0, failed_same place i cause _ h.1))
   failed_follows gap place cause h = failed_same place i cause _ h
@@ -131,16 +114,15 @@ branch_readings a false t e = omega arith
 
 -- ---- the steps of following
 
-module _ {A : Type 0} (worlds : A → ℕ → Type 0) (some : (k : A) → (w : ℕ) × worlds k w) (file : List ℕ) (start : A) where
-  pub ahead_begun : (p : Procedure) → procedure_of file ≡ Ok p → readings p.plan ≤ 8 → (run : Run A) (slots : ℕ → Run A) → run.place ≡ p.place → run.knowledge ≡ start
-      → Ahead worlds file start run slots 0
-  ahead_begun p is few run slots there knows = record {
+module _ {A : Type 0} {worlds : A → ℕ → Type 0} {file : List ℕ} {start : A} where
+  pub ahead_begun : (p : Procedure) → procedure_of file ≡ Ok p → readings p.plan ≤ 8 → (run : Run A) → run.place ≡ p.place → run.knowledge ≡ start
+      → Ahead worlds file start run []
+  ahead_begun p is few run there knows = record {
     p = p;
     is = is;
     q = p.plan;
     at = subst (λ (j : ℕ). NodeAt p.place p.plan j p.plan) (sym there) (node_root p.plan p.place);
     stack = [];
-    long = refl;
     room = omega (arith, few);
     lies = tt;
     on = λ v u f next.
@@ -152,19 +134,19 @@ module _ {A : Type 0} (worlds : A → ℕ → Type 0) (some : (k : A) → (w : �
       last p Holds v f e = subst (Follows p.goal (tree_of p) (worlds start)) (sym e) f
       last p (Fails place cause) v f e = subst (Follows p.goal (tree_of p) (worlds start)) (sym e) f
 
-  module _ (run : Run A) (slots : ℕ → Run A) (count : ℕ) (w : Ahead worlds file start run slots count) where
+  module _ {run : Run A} {waiting : List (Run A)} (w : Ahead worlds file start run waiting) where
     pub ahead_within : run.place < past w.p.place w.p.plan
     ahead_within = omega (arith, (node_within w.p.plan w.p.place run.place w.q w.at).1, some_bytes w.q)
 
     -- an action was done
-    module _ (a : ℕ) (next : Run A) (step : Stepped worlds w.p.goal w.p.actions run.place run.knowledge w.q (Did a next)) where
+    module _ (a : ℕ) (next : Run A) (step : Promised worlds file run (Did a next)) where
       done : Doing worlds w.p.goal w.p.actions run.place run.knowledge w.q a next
-      done = at_doing worlds w.p.goal w.p.actions run.place run.knowledge w.q a next step
+      done = at_doing worlds w.p.goal w.p.actions run.place run.knowledge w.q a next (step w.p w.is w.q w.at)
 
       pub further_did : run.place < next.place
       further_did = omega (arith, done.there)
 
-      pub ahead_did : Ahead worlds file start next slots count
+      pub ahead_did : Ahead worlds file start next waiting
       unfolding Follows
       ahead_did =
           let p = w.p in
@@ -180,56 +162,42 @@ module _ {A : Type 0} (worlds : A → ℕ → Type 0) (some : (k : A) → (w : �
             q = d.rest;
             at = subst (λ (j : ℕ). NodeAt p.place p.plan j d.rest) (sym d.there) (node_rest p.plan p.place run.place a d.rest node);
             stack = w.stack;
-            long = w.long;
             room = omega (arith, w.room, ap readings d.is);
-            lies = lies_behind worlds p slots (past run.place w.q) (past next.place d.rest) w.stack (omega (arith, size, d.there)) w.lies;
+            lies = lies_behind worlds p (past run.place w.q) (past next.place d.rest) waiting w.stack (omega (arith, size, d.there)) w.lies;
             on = λ v u f rest. w.on v u (subst (λ t. Follows p.goal t (worlds run.knowledge) u) (sym tree)
                 (inl (d.covers, follows_same p.goal (steps_of p.actions next.place d.rest) (worlds next.knowledge) (Moved d.add d.del (worlds run.knowledge)) d.knows u f))) rest;
           }
 
-    -- the plan ends well: nothing waits, or the last that waits is next
-    pub ahead_over : Stepped worlds w.p.goal w.p.actions run.place run.knowledge w.q Ended → count ≡ 0 → Follows w.p.goal (tree_of w.p) (worlds start) Holds
-    ahead_over step none = over w.stack w.long (w.on Holds Holds (ended_follows worlds w.p.goal w.p.actions run.place run.knowledge w.q step))
-      where
-        over : (qs : List Plan) → length qs ≡ count → (Rest worlds w.p slots qs Holds → Follows w.p.goal (tree_of w.p) (worlds start) Holds) → Follows w.p.goal (tree_of w.p) (worlds start) Holds
-        over [] e h = h refl
-        over (q ∷ qs) e h = absurd (omega (arith, e, none))
+    -- the plan ends well: nothing waits, or the last that came is next
+    pub ahead_over : Promised worlds file run Ended → waiting ≡ [] → Follows w.p.goal (tree_of w.p) (worlds start) Holds
+    ahead_over step none =
+        w.on Holds Holds (ended_follows worlds w.p.goal w.p.actions run.place run.knowledge w.q (step w.p w.is w.q w.at)) (subst (λ rs. Rest worlds w.p rs w.stack Holds) (sym none) refl)
 
-    pub ahead_next : Stepped worlds w.p.goal w.p.actions run.place run.knowledge w.q Ended → (n : ℕ) → count ≡ suc n
-        → (run.place < (slots n).place) × Ahead worlds file start (slots n) slots n
-    ahead_next step n more = go w.stack w.long w.lies (λ v. w.on v Holds (ended_follows worlds w.p.goal w.p.actions run.place run.knowledge w.q step))
+    pub ahead_next : Promised worlds file run Ended → (r : Run A) (rs : List (Run A)) → waiting ≡ r ∷ rs
+        → (run.place < r.place) × Ahead worlds file start r rs
+    ahead_next step r rs is =
+        go w.stack (subst (λ l. Lies worlds w.p (past run.place w.q) l w.stack) is w.lies)
+        (λ v h. w.on v Holds (ended_follows worlds w.p.goal w.p.actions run.place run.knowledge w.q (step w.p w.is w.q w.at)) (subst (λ l. Rest worlds w.p l w.stack v) (sym is) h))
       where
-        go : (qs : List Plan) → length qs ≡ count → Lies worlds w.p slots (past run.place w.q) qs
-            → ((v : Verdict) → Rest worlds w.p slots qs v → Follows w.p.goal (tree_of w.p) (worlds start) v) → (run.place < (slots n).place) × Ahead worlds file start (slots n) slots n
-        go [] e lies h = absurd (omega (arith, e, more))
-        go (q ∷ qs) e (at, behind, room, rest) h =
-            let k : length qs ≡ n = omega (arith, e, more) in (
-              subst (λ (m : ℕ). run.place < (slots m).place) k (omega (arith, behind, some_bytes w.q)),
-              subst (λ (m : ℕ). Ahead worlds file start (slots m) slots m) k
-                  (record {
-                    p = w.p;
-                    is = w.is;
-                    q = q;
-                    at = at;
-                    stack = qs;
-                    long = refl;
-                    room = room;
-                    lies = rest;
-                    on = λ v u f next. h v (u, f, next);
-                  }),
-            )
+        go : (qs : List Plan) → Lies worlds w.p (past run.place w.q) (r ∷ rs) qs
+            → ((v : Verdict) → Rest worlds w.p (r ∷ rs) qs v → Follows w.p.goal (tree_of w.p) (worlds start) v) → (run.place < r.place) × Ahead worlds file start r rs
+        go [] l h = elim l [ ]
+        go (q ∷ qs) (at, behind, room, rest) h = (
+          omega (arith, behind, some_bytes w.q),
+          record { p = w.p; is = w.is; q = q; at = at; stack = qs; room = room; lies = rest; on = λ v u f next. h v (u, f, next) },
+        )
 
-    pub ahead_failed : (place : ℕ) (cause : Cause) → Stepped worlds w.p.goal w.p.actions run.place run.knowledge w.q (Failed place cause)
+    pub ahead_failed : (place : ℕ) (cause : Cause) → Promised worlds file run (Failed place cause)
         → Follows w.p.goal (tree_of w.p) (worlds start) (Fails place cause)
     ahead_failed place cause step =
-        w.on (Fails place cause) (Fails place cause) (failed_follows worlds w.p.goal w.p.actions run.place run.knowledge w.q place cause step) refl
+        w.on (Fails place cause) (Fails place cause) (failed_follows worlds w.p.goal w.p.actions run.place run.knowledge w.q place cause (step w.p w.is w.q w.at)) refl
 
     -- a reading waits
-    module _ (x : Pending A) (step : Stepped worlds w.p.goal w.p.actions run.place run.knowledge w.q (Asks x)) where
-      pub asking : Asking worlds w.p.goal w.p.actions run.place run.knowledge w.q x
-      asking = at_asking worlds w.p.goal w.p.actions run.place run.knowledge w.q x step
+    module _ (some : (k : A) → (w : ℕ) × worlds k w) (x : Pending A) (step : Promised worlds file run (Asks x)) where
+      asking : Asking worlds w.p.goal w.p.actions run.place run.knowledge w.q x
+      asking = at_asking worlds w.p.goal w.p.actions run.place run.knowledge w.q x (step w.p w.is w.q w.at)
 
-      pub node : NodeAt w.p.place w.p.plan x.place (ask asking.a asking.t asking.e)
+      node : NodeAt w.p.place w.p.plan x.place (ask asking.a asking.t asking.e)
       node = asking_node worlds w.p.goal w.p.actions run w.p.plan w.p.place w.q x w.at asking
 
       f : ℕ
@@ -279,82 +247,74 @@ module _ {A : Type 0} (worlds : A → ℕ → Type 0) (some : (k : A) → (w : �
             (ap (λ (j : ℕ). steps_of w.p.actions j (pick v asking.t asking.e)) there ∙ branch_tree w.p.actions run.place v asking.t asking.e)
             (follows_same w.p.goal (steps_of w.p.actions r.place (pick v asking.t asking.e)) (worlds r.knowledge) (Told f v K) b.knows u h)
 
-        pub further_branch : run.place < r.place
+        further_branch : run.place < r.place
         further_branch = omega (arith, b.there, asking.there, branch_further x.place v asking.t)
 
         ahead_branch : ((u : Verdict) → Follows w.p.goal (pick v when_true when_false) (Told f v K) u → Follows w.p.goal (reads run.place asking.c f when_true when_false) K u)
-            → Ahead worlds file start r slots count
+            → Ahead worlds file start r waiting
         ahead_branch up = record {
           p = w.p;
           is = w.is;
           q = pick v asking.t asking.e;
           at = branch_node;
           stack = w.stack;
-          long = w.long;
           room = omega (arith, w.room, ap readings asking.is, branch_readings asking.a v asking.t asking.e);
-          lies = lies_behind worlds w.p slots (past run.place w.q) (past r.place (pick v asking.t asking.e)) w.stack (omega (arith, ends_by v, b.there)) w.lies;
+          lies = lies_behind worlds w.p (past run.place w.q) (past r.place (pick v asking.t asking.e)) waiting w.stack (omega (arith, ends_by v, b.there)) w.lies;
           on = λ z u h rest. w.on z u (at_node u (up u (branch_follows u h))) rest;
         }
 
+      -- what the contract of the branches says
+      abbrev Opens : Branches A → Type 0
+      Opens r = (p : Procedure) → procedure_of file ≡ Ok p → (a : ℕ) (t e : Plan) → NodeAt p.place p.plan x.place (ask a t e) → Branched worlds x t r
+
       -- one branch is open
-      pub ahead_one : (next : Run A) → Branched worlds x asking.t (One next) → (run.place < next.place) × Ahead worlds file start next slots count
+      one_open : (next : Run A) → Branched worlds x asking.t (One next) → (run.place < next.place) × Ahead worlds file start next waiting
       unfolding f K
-      ahead_one next (inl (b, closed)) = (
+      one_open next (inl (b, closed)) = (
         further_branch true next b,
         ahead_branch true next b (λ u h. one_true w.p.goal run.place asking.c f when_true when_false K covers u (branch_open true next b) closed h),
       )
-      ahead_one next (inr (b, closed)) = (
+      one_open next (inr (b, closed)) = (
         further_branch false next b,
         ahead_branch false next b (λ u h. one_false w.p.goal run.place asking.c f when_true when_false K covers u closed (branch_open false next b) h),
       )
 
+      pub ahead_one : (next : Run A) → Opens (One next) → (run.place < next.place) × Ahead worlds file start next waiting
+      ahead_one next opens = one_open next (opens w.p w.is asking.a asking.t asking.e node)
+
       -- there is room for one more that waits
-      pub room_both : count < 8
+      pub room_both : length waiting < 8
       room_both = omega (arith, w.room, ap readings asking.is)
 
-      -- both are open: the one for false waits in the next slot
-      module _ (next later : Run A) (b : Branched worlds x asking.t (Both next later)) (after : ℕ → Run A)
-          (put : after count ≡ later) (kept : (j : ℕ) → j < 8 → (j ≡ count → ⊥) → after j ≡ slots j) where
-        same_below : (j : ℕ) → j < length w.stack → after j ≡ slots j
-        same_below j h = kept j (omega (arith, h, w.long, room_both)) (λ e. omega (arith, h, w.long, e))
+      -- both are open: the one for false waits
+      module _ (next later : Run A) (opens : Opens (Both next later)) where
+        b : Branched worlds x asking.t (Both next later)
+        b = opens w.p w.is asking.a asking.t asking.e node
 
-        top : after (length w.stack) ≡ later
-        top = ap after w.long ∙ put
+        lies_both : Lies worlds w.p (past next.place asking.t) (later ∷ waiting) (asking.e ∷ w.stack)
+        lies_both = (
+          branch_node false later b.1,
+          omega (arith, b.0.there, b.1.there),
+          omega (arith, w.room, ap readings asking.is, branch_readings asking.a false asking.t asking.e),
+          lies_behind worlds w.p (past run.place w.q) (past later.place asking.e) waiting w.stack (omega (arith, ends_by false, b.1.there)) w.lies,
+        )
 
-        lies_both : Lies worlds w.p after (past next.place asking.t) (asking.e ∷ w.stack)
-        lies_both =
-            let end : past later.place asking.e ≤ past run.place w.q = omega (arith, ends_by false, b.1.there) in
-            subst (λ r. NodeAt w.p.place w.p.plan r.place asking.e × (past next.place asking.t ≤ r.place) × (length w.stack + readings asking.e ≤ 8) × Lies worlds w.p after (past r.place asking.e) w.stack) (sym top) (
-              branch_node false later b.1,
-              omega (arith, b.0.there, b.1.there),
-              omega (arith, w.long, w.room, ap readings asking.is, branch_readings asking.a false asking.t asking.e),
-              lies_kept worlds w.p slots after (past later.place asking.e) w.stack same_below
-                  (lies_behind worlds w.p slots (past run.place w.q) (past later.place asking.e) w.stack end w.lies),
-            )
-
-        on_both : (z u : Verdict) → Follows w.p.goal when_true (Told f true K) u → Then u (Rest worlds w.p after (asking.e ∷ w.stack) z) z → Follows w.p.goal (tree_of w.p) (worlds start) z
+        on_both : (z u : Verdict) → Follows w.p.goal when_true (Told f true K) u → Then u (Rest worlds w.p (later ∷ waiting) (asking.e ∷ w.stack) z) z → Follows w.p.goal (tree_of w.p) (worlds start) z
         on_both z (Fails place cause) h rest =
             w.on z (Fails place cause) (at_node (Fails place cause) (both_fail w.p.goal run.place asking.c f when_true when_false K covers place cause (branch_open true next b.0) h)) rest
-        on_both z Holds h (Holds, g, rest) =
-            let waits = subst (λ r. Follows w.p.goal (steps_of w.p.actions r.place asking.e) (worlds r.knowledge) Holds) top g in
-            w.on z Holds (at_node Holds (both_hold w.p.goal run.place asking.c f when_true when_false K covers Holds (branch_open true next b.0) (branch_open false later b.1) h (branch_follows false later b.1 Holds waits)))
-            (rest_kept worlds w.p slots after w.stack z same_below rest)
-        on_both z Holds h (Fails place cause, g, rest) =
-            let waits = subst (λ r. Follows w.p.goal (steps_of w.p.actions r.place asking.e) (worlds r.knowledge) (Fails place cause)) top g in
-            w.on z (Fails place cause) (at_node (Fails place cause) (both_hold w.p.goal run.place asking.c f when_true when_false K covers (Fails place cause) (branch_open true next b.0) (branch_open false later b.1) h (branch_follows false later b.1 (Fails place cause) waits)))
-            rest
+        on_both z Holds h (u, g, rest) =
+            w.on z u (at_node u (both_hold w.p.goal run.place asking.c f when_true when_false K covers u (branch_open true next b.0) (branch_open false later b.1) h (branch_follows false later b.1 u g))) rest
 
         pub further_both : run.place < next.place
         further_both = further_branch true next b.0
 
-        pub ahead_both : Ahead worlds file start next after (count + 1)
+        pub ahead_both : Ahead worlds file start next (later ∷ waiting)
         ahead_both = record {
           p = w.p;
           is = w.is;
           q = asking.t;
           at = branch_node true next b.0;
           stack = asking.e ∷ w.stack;
-          long = omega (arith, w.long);
           room = omega (arith, w.room, ap readings asking.is, branch_readings asking.a true asking.t asking.e);
           lies = lies_both;
           on = λ z u h rest. on_both z u (branch_follows true next b.0 u h) rest;

@@ -1,6 +1,6 @@
 -- What lasts from step to step of a walk, and what each step makes of it. Assumes nothing.
 use Rattle.std.proofs.Common.{◌≡◌, ℕ, suc, ◌+◌, ◌<◌, ◌≤◌, Bool, true, false, List, [], ◌∷◌, length, drop, Some, Ok, Err, sym, refl, ap, ◌∙◌, subst, inl, inr, arith, length-drop}
-use Rattle.std.proofs.lemmas.List.{drop_all}
+use Rattle.std.proofs.lemmas.List.{nil_from_length}
 use Rattle.fluents.specs.Refusals.{fault_at}
 use Rattle.fluents.specs.declared.faults.Fault.{Fault}
 use Rattle.fluents.specs.declared.faults.Refusal.TheVariants.{Contradiction}
@@ -23,15 +23,10 @@ use Rattle.runs.specs.declared.run.Run.{Run}
 use Rattle.runs.specs.declared.run.Step.{Step}
 use Rattle.runs.specs.declared.run.Step.TheVariants.{Did, Asks, Ended, Failed}
 
--- The run stands at a node of the plan, and the walk from there along the values that are left goes on what came before.
-pub record Along {A : Type 0} (worlds : A → ℕ → Type 0) (file : List ℕ) (start : A) (readings : List Bool) (run : Run A) (used : ℕ) : Type 0 where
-  pub p : Procedure
-  pub is : procedure_of file ≡ Ok p
-  pub q : Plan
-  pub at : NodeAt p.place p.plan run.place q
-  pub few : used ≤ length readings
-  pub on : (n : ℕ) (s : Stop) → Walks p.goal (steps_of p.actions run.place q) (worlds run.knowledge) (drop used readings) n s
-      → Walks p.goal (tree_of p) (worlds start) readings (used + n) s
+-- what the contract of a step says of the run
+abbrev pub Promised : {A : Type 0} → (A → ℕ → Type 0) → List ℕ → Run A → Step A → Type 0
+Promised worlds file run s =
+    (p : Procedure) → procedure_of file ≡ Ok p → (q : Plan) → NodeAt p.place p.plan run.place q → Stepped worlds p.goal p.actions run.place run.knowledge q s
 
 -- ---- the tree of a node whose action was found
 
@@ -61,8 +56,8 @@ module _ {A : Type 0} (worlds : A → ℕ → Type 0) (goal : Row) (acts : List 
     pub knows : Same (worlds r.knowledge) (Moved add del (worlds k))
 
   pub at_doing : (q : Plan) (a : ℕ) (r : Run A) → Stepped worlds goal acts i k q (Did a r) → Doing q a r
-  at_doing finish a r (inl h) = let z : ◌≡◌ {A = ℕ} 0 1 = cc h.1 in absurd (omega arith)
-  at_doing finish a r (inr h) = let z : ◌≡◌ {A = ℕ} 0 1 = cc h.1 in absurd (omega arith)
+  at_doing finish a r (inl h) = absurd (cc h.1)
+  at_doing finish a r (inr h) = absurd (cc h.1)
   at_doing (act b q) a r (c, add, del, found, inl (covers, (x, e, there, knows))) =
       let one : a ≡ b = cc e in
       let same : r ≡ x = cc e in
@@ -77,10 +72,10 @@ module _ {A : Type 0} (worlds : A → ℕ → Type 0) (goal : Row) (acts : List 
         there = ap (λ v. v.place) same ∙ there;
         knows = subst (λ v. Same (worlds v.knowledge) (Moved add del (worlds k))) (sym same) knows;
       }
-  at_doing (act b q) a r (c, add, del, found, inr h) = let z : ◌≡◌ {A = ℕ} 0 1 = cc h.1 in absurd (omega arith)
-  at_doing (ask b t e) a r (c, f, found, inl h) = let z : ◌≡◌ {A = ℕ} 0 1 = cc h.1.1 in absurd (omega arith)
-  at_doing (ask b t e) a r (c, f, found, inr h) = let z : ◌≡◌ {A = ℕ} 0 1 = cc h.1 in absurd (omega arith)
-  at_doing gap a r h = let z : ◌≡◌ {A = ℕ} 0 1 = cc h in absurd (omega arith)
+  at_doing (act b q) a r (c, add, del, found, inr h) = absurd (cc h.1)
+  at_doing (ask b t e) a r (c, f, found, inl h) = absurd (cc h.1.1)
+  at_doing (ask b t e) a r (c, f, found, inr h) = absurd (cc h.1)
+  at_doing gap a r h = absurd (cc h)
 
   -- where a reading waits, the node reads, and its conditions are known
   pub record Asking (q : Plan) (x : Pending A) : Type 0 where
@@ -95,10 +90,10 @@ module _ {A : Type 0} (worlds : A → ℕ → Type 0) (goal : Row) (acts : List 
     pub knows : x.knowledge ≡ k
 
   pub at_asking : (q : Plan) (x : Pending A) → Stepped worlds goal acts i k q (Asks x) → Asking q x
-  at_asking finish x (inl h) = let z : ◌≡◌ {A = ℕ} 0 1 = cc h.1 in absurd (omega arith)
-  at_asking finish x (inr h) = let z : ◌≡◌ {A = ℕ} 0 1 = cc h.1 in absurd (omega arith)
-  at_asking (act b q) x (c, add, del, found, inl h) = let z : ◌≡◌ {A = ℕ} 0 1 = cc h.1.1 in absurd (omega arith)
-  at_asking (act b q) x (c, add, del, found, inr h) = let z : ◌≡◌ {A = ℕ} 0 1 = cc h.1 in absurd (omega arith)
+  at_asking finish x (inl h) = absurd (cc h.1)
+  at_asking finish x (inr h) = absurd (cc h.1)
+  at_asking (act b q) x (c, add, del, found, inl h) = absurd (cc h.1.1)
+  at_asking (act b q) x (c, add, del, found, inr h) = absurd (cc h.1)
   at_asking (ask b t e) x (c, f, found, inl (covers, (y, w, there, number, fluent, knows))) =
       let same : x ≡ y = cc w in
       record {
@@ -112,19 +107,19 @@ module _ {A : Type 0} (worlds : A → ℕ → Type 0) (goal : Row) (acts : List 
         there = ap (λ v. v.place) same ∙ there;
         knows = ap (λ v. v.knowledge) same ∙ knows;
       }
-  at_asking (ask b t e) x (c, f, found, inr h) = let z : ◌≡◌ {A = ℕ} 0 1 = cc h.1 in absurd (omega arith)
-  at_asking gap x h = let z : ◌≡◌ {A = ℕ} 0 1 = cc h in absurd (omega arith)
+  at_asking (ask b t e) x (c, f, found, inr h) = absurd (cc h.1)
+  at_asking gap x h = absurd (cc h)
 
   -- the walk stops at a node that ends it
   pub ended_walk : (q : Plan) (vs : List Bool) → Stepped worlds goal acts i k q Ended → Walks goal (steps_of acts i q) (worlds k) vs 0 EndedWell
   unfolding Walks steps_of
   ended_walk finish vs (inl h) = (inl (h.0, refl), refl)
-  ended_walk finish vs (inr h) = let z : ◌≡◌ {A = ℕ} 0 1 = cc h.1 in absurd (omega arith)
-  ended_walk (act b q) vs (c, add, del, found, inl h) = let z : ◌≡◌ {A = ℕ} 0 1 = cc h.1.1 in absurd (omega arith)
-  ended_walk (act b q) vs (c, add, del, found, inr h) = let z : ◌≡◌ {A = ℕ} 0 1 = cc h.1 in absurd (omega arith)
-  ended_walk (ask b t e) vs (c, f, found, inl h) = let z : ◌≡◌ {A = ℕ} 0 1 = cc h.1.1 in absurd (omega arith)
-  ended_walk (ask b t e) vs (c, f, found, inr h) = let z : ◌≡◌ {A = ℕ} 0 1 = cc h.1 in absurd (omega arith)
-  ended_walk gap vs h = let z : ◌≡◌ {A = ℕ} 0 1 = cc h in absurd (omega arith)
+  ended_walk finish vs (inr h) = absurd (cc h.1)
+  ended_walk (act b q) vs (c, add, del, found, inl h) = absurd (cc h.1.1)
+  ended_walk (act b q) vs (c, add, del, found, inr h) = absurd (cc h.1)
+  ended_walk (ask b t e) vs (c, f, found, inl h) = absurd (cc h.1.1)
+  ended_walk (ask b t e) vs (c, f, found, inr h) = absurd (cc h.1)
+  ended_walk gap vs h = absurd (cc h)
 
   failed_same : (place j : ℕ) (cause why : Cause) → ◌≡◌ {A = Step A} (Failed place cause) (Failed j why) → FailedStop place cause ≡ FailedStop j why
   failed_same place j cause why e = let p : place ≡ j = cc e in let c : cause ≡ why = cc e in cc
@@ -139,12 +134,12 @@ module _ {A : Type 0} (worlds : A → ℕ → Type 0) (goal : Row) (acts : List 
   pub failed_walk : (q : Plan) (vs : List Bool) (place : ℕ) (cause : Cause) → Stepped worlds goal acts i k q (Failed place cause)
       → Walks goal (steps_of acts i q) (worlds k) vs 0 (FailedStop place cause)
   unfolding Walks steps_of
-  failed_walk finish vs place cause (inl h) = let z : ◌≡◌ {A = ℕ} 0 1 = cc h.1 in absurd (omega arith)
+  failed_walk finish vs place cause (inl h) = absurd (cc h.1)
   failed_walk finish vs place cause (inr h) = (inr (h.0, failed_same place i cause _ h.1), refl)
-  failed_walk (act b q) vs place cause (c, add, del, found, inl h) = let z : ◌≡◌ {A = ℕ} 0 1 = cc h.1.1 in absurd (omega arith)
+  failed_walk (act b q) vs place cause (c, add, del, found, inl h) = absurd (cc h.1.1)
   failed_walk (act b q) vs place cause (c, add, del, found, inr h) =
       subst (λ t. Walks goal t (worlds k) vs 0 (FailedStop place cause)) (sym (doing_tree acts i b q c add del found)) (inr (h.0, (failed_same place i cause _ h.1, refl)))
-  failed_walk (ask b t e) vs place cause (c, f, found, inl h) = let z : ◌≡◌ {A = ℕ} 0 1 = cc h.1.1 in absurd (omega arith)
+  failed_walk (ask b t e) vs place cause (c, f, found, inl h) = absurd (cc h.1.1)
   failed_walk (ask b t e) vs place cause (c, f, found, inr h) =
       subst (λ t. Walks goal t (worlds k) vs 0 (FailedStop place cause)) (sym (reading_tree acts i b t e c f found))
       (reads_failed c f (steps_of acts (i + 2) t) (steps_of acts (past (i + 2) t) e) vs (FailedStop place cause) h.0 (failed_same place i cause _ h.1))
@@ -187,38 +182,48 @@ pub asking_node : {A : Type 0} (worlds : A → ℕ → Type 0) (goal : Row) (act
     → (a : Asking worlds goal acts run.place run.knowledge q x) → NodeAt i p x.place (ask a.a a.t a.e)
 asking_node worlds goal acts run p i q x at a = subst (λ (j : ℕ). NodeAt i p j (ask a.a a.t a.e)) (sym a.there) (subst (NodeAt i p run.place) a.is at)
 
--- ---- the steps of a walk
+-- ---- the steps of a walk, by the values that are left
 
-module _ {A : Type 0} (worlds : A → ℕ → Type 0) (file : List ℕ) (start : A) (readings : List Bool) where
+-- The run stands at a node of the plan, and the walk from there along the values that are left goes on what came before.
+pub record Left {A : Type 0} (worlds : A → ℕ → Type 0) (file : List ℕ) (start : A) (readings : List Bool) (run : Run A) (left : List Bool) : Type 0 where
+  pub p : Procedure
+  pub is : procedure_of file ≡ Ok p
+  pub q : Plan
+  pub at : NodeAt p.place p.plan run.place q
+  pub few : length left ≤ length readings
+  pub on : (n m : ℕ) (s : Stop) → m + length left ≡ length readings + n → Walks p.goal (steps_of p.actions run.place q) (worlds run.knowledge) left n s
+      → Walks p.goal (tree_of p) (worlds start) readings m s
+
+module _ {A : Type 0} {worlds : A → ℕ → Type 0} {file : List ℕ} {start : A} {readings : List Bool} where
   -- before the first step
-  pub along_begun : (p : Procedure) → procedure_of file ≡ Ok p → (run : Run A) → run.place ≡ p.place → run.knowledge ≡ start → Along worlds file start readings run 0
-  along_begun p is run there knows = record {
+  pub left_begun : (p : Procedure) → procedure_of file ≡ Ok p → (run : Run A) → run.place ≡ p.place → run.knowledge ≡ start → Left worlds file start readings run readings
+  left_begun p is run there knows = record {
     p = p;
     is = is;
     q = p.plan;
     at = subst (λ (j : ℕ). NodeAt p.place p.plan j p.plan) (sym there) (node_root p.plan p.place);
     few = omega arith;
-    on = λ n s w.
-        let m : n ≡ 0 + n = omega arith in
-        subst (λ (x : ℕ). Walks p.goal (tree_of p) (worlds start) readings x s) m
+    on = λ n m s e w.
+        let same : n ≡ m = omega arith in
+        subst (λ (x : ℕ). Walks p.goal (tree_of p) (worlds start) readings x s) same
         (subst (λ k. Walks p.goal (tree_of p) (worlds k) readings n s) knows (subst (λ (j : ℕ). Walks p.goal (steps_of p.actions j p.plan) (worlds run.knowledge) readings n s) there w));
   }
 
-  module _ (run : Run A) (used : ℕ) (w : Along worlds file start readings run used) where
+  module _ {run : Run A} {left : List Bool} (w : Left worlds file start readings run left) where
     -- the node's bytes lie before the end of the plan
-    pub along_within : run.place < past w.p.place w.p.plan
-    along_within = omega (arith, (node_within w.p.plan w.p.place run.place w.q w.at).1, some_bytes w.q)
+    pub left_within : run.place < past w.p.place w.p.plan
+    left_within = omega (arith, (node_within w.p.plan w.p.place run.place w.q w.at).1, some_bytes w.q)
 
     module _ (a : ℕ) (next : Run A) (step : Stepped worlds w.p.goal w.p.actions run.place run.knowledge w.q (Did a next)) where
       done : Doing worlds w.p.goal w.p.actions run.place run.knowledge w.q a next
       done = at_doing worlds w.p.goal w.p.actions run.place run.knowledge w.q a next step
 
-      pub further_did : run.place < next.place
-      further_did = omega (arith, done.there)
+      pub left_on : run.place < next.place
+      left_on = omega (arith, done.there)
 
-      pub along_did : Along worlds file start readings next used
+      pub left_did : Left worlds file start readings next left
       unfolding Walks
-      along_did =
+      left_did =
           let p = w.p in
           let d = done in
           let node : NodeAt p.place p.plan run.place (act a d.rest) = subst (NodeAt p.place p.plan run.place) d.is w.at in
@@ -231,98 +236,157 @@ module _ {A : Type 0} (worlds : A → ℕ → Type 0) (file : List ℕ) (start :
             q = d.rest;
             at = subst (λ (j : ℕ). NodeAt p.place p.plan j d.rest) (sym d.there) (node_rest p.plan p.place run.place a d.rest node);
             few = w.few;
-            on = λ n s v. w.on n s (subst (λ t. Walks p.goal t (worlds run.knowledge) (drop used readings) n s) (sym tree)
-                (inl (d.covers, walks_same p.goal (steps_of p.actions next.place d.rest) (worlds next.knowledge) (Moved d.add d.del (worlds run.knowledge)) d.knows (drop used readings) n s v)));
+            on = λ n m s e v. w.on n m s e (subst (λ t. Walks p.goal t (worlds run.knowledge) left n s) (sym tree)
+                (inl (d.covers, walks_same p.goal (steps_of p.actions next.place d.rest) (worlds next.knowledge) (Moved d.add d.del (worlds run.knowledge)) d.knows left n s v)));
           }
 
-    pub along_ended : Stepped worlds w.p.goal w.p.actions run.place run.knowledge w.q Ended → Walks w.p.goal (tree_of w.p) (worlds start) readings used EndedWell
-    along_ended step =
-        let m : used + 0 ≡ used = omega arith in
-        subst (λ (n : ℕ). Walks w.p.goal (tree_of w.p) (worlds start) readings n EndedWell) m
-        (w.on 0 EndedWell (ended_walk worlds w.p.goal w.p.actions run.place run.knowledge w.q (drop used readings) step))
+    -- the walk stops after so many values
+    module _ (m : ℕ) (all : m + length left ≡ length readings) where
+      pub left_ended : Stepped worlds w.p.goal w.p.actions run.place run.knowledge w.q Ended → Walks w.p.goal (tree_of w.p) (worlds start) readings m EndedWell
+      left_ended step = w.on 0 m EndedWell (omega arith) (ended_walk worlds w.p.goal w.p.actions run.place run.knowledge w.q left step)
 
-    pub along_failed : (place : ℕ) (cause : Cause) → Stepped worlds w.p.goal w.p.actions run.place run.knowledge w.q (Failed place cause)
-        → Walks w.p.goal (tree_of w.p) (worlds start) readings used (FailedStop place cause)
-    along_failed place cause step =
-        let m : used + 0 ≡ used = omega arith in
-        subst (λ (n : ℕ). Walks w.p.goal (tree_of w.p) (worlds start) readings n (FailedStop place cause)) m
-        (w.on 0 (FailedStop place cause) (failed_walk worlds w.p.goal w.p.actions run.place run.knowledge w.q (drop used readings) place cause step))
+      pub left_failed : (place : ℕ) (cause : Cause) → Stepped worlds w.p.goal w.p.actions run.place run.knowledge w.q (Failed place cause) → Walks w.p.goal (tree_of w.p) (worlds start) readings m (FailedStop place cause)
+      left_failed place cause step =
+          w.on 0 m (FailedStop place cause) (omega arith) (failed_walk worlds w.p.goal w.p.actions run.place run.knowledge w.q left place cause step)
 
     -- a reading waits
     module _ (x : Pending A) (step : Stepped worlds w.p.goal w.p.actions run.place run.knowledge w.q (Asks x)) where
-      pub waiting : Asking worlds w.p.goal w.p.actions run.place run.knowledge w.q x
-      waiting = at_asking worlds w.p.goal w.p.actions run.place run.knowledge w.q x step
+      pub left_asking : Asking worlds w.p.goal w.p.actions run.place run.knowledge w.q x
+      left_asking = at_asking worlds w.p.goal w.p.actions run.place run.knowledge w.q x step
 
-      tree_is : steps_of w.p.actions run.place w.q
-          ≡ reads run.place waiting.c x.fluent.index (steps_of w.p.actions (run.place + 2) waiting.t) (steps_of w.p.actions (past (run.place + 2) waiting.t) waiting.e)
-      tree_is =
-          ap (steps_of w.p.actions run.place) waiting.is
-          ∙ reading_tree w.p.actions run.place waiting.a waiting.t waiting.e waiting.c x.fluent.index waiting.found
+      pub left_node : NodeAt w.p.place w.p.plan x.place (ask left_asking.a left_asking.t left_asking.e)
+      left_node = asking_node worlds w.p.goal w.p.actions run w.p.plan w.p.place w.q x w.at left_asking
 
-      pub waiting_node : NodeAt w.p.place w.p.plan x.place (ask waiting.a waiting.t waiting.e)
-      waiting_node = asking_node worlds w.p.goal w.p.actions run w.p.plan w.p.place w.q x w.at waiting
+      tree : Steps
+      tree = reads run.place left_asking.c x.fluent.index (steps_of w.p.actions (run.place + 2) left_asking.t) (steps_of w.p.actions (past (run.place + 2) left_asking.t) left_asking.e)
+
+      -- the walk from the reading node is that from the node at which the run stands
+      at_node : (n m : ℕ) (s : Stop) → m + length left ≡ length readings + n → Walks w.p.goal tree (worlds x.knowledge) left n s → Walks w.p.goal (tree_of w.p) (worlds start) readings m s
+      unfolding tree
+      at_node n m s e walk =
+          let is = ap (steps_of w.p.actions run.place) left_asking.is ∙ reading_tree w.p.actions run.place left_asking.a left_asking.t left_asking.e left_asking.c x.fluent.index left_asking.found in
+          w.on n m s e (subst (λ t. Walks w.p.goal t (worlds run.knowledge) left n s) (sym is) (subst (λ k. Walks w.p.goal tree (worlds k) left n s) left_asking.knows walk))
+
+      known_covers : Covers left_asking.c (worlds x.knowledge)
+      known_covers = subst (λ k. Covers left_asking.c (worlds k)) (sym left_asking.knows) left_asking.covers
 
       -- no value is left
-      pub along_used_up : length readings ≤ used → Walks w.p.goal (tree_of w.p) (worlds start) readings used (UsedUp x.place)
-      unfolding Walks
-      along_used_up over =
-          let m : used + 0 ≡ used = omega arith in
-          let tree = tree_is in
-          let none : drop used readings ≡ [] = drop_all used readings over in
-          let stop : UsedUp x.place ≡ UsedUp run.place = ap UsedUp waiting.there in
-          subst (λ (n : ℕ). Walks w.p.goal (tree_of w.p) (worlds start) readings n (UsedUp x.place)) m
-          (w.on 0 (UsedUp x.place)
-          (subst (λ vs. Walks w.p.goal (steps_of w.p.actions run.place w.q) (worlds run.knowledge) vs 0 (UsedUp x.place)) (sym none)
-          (subst (λ t. Walks w.p.goal t (worlds run.knowledge) [] 0 (UsedUp x.place)) (sym tree) (inl (waiting.covers, stop), refl))))
+      pub left_used_up : (m : ℕ) → m + length left ≡ length readings → length left ≡ 0 → Walks w.p.goal (tree_of w.p) (worlds start) readings m (UsedUp x.place)
+      unfolding Walks tree
+      left_used_up m all none =
+          at_node 0 m (UsedUp x.place) (omega arith)
+          (subst (λ vs. Walks w.p.goal tree (worlds x.knowledge) vs 0 (UsedUp x.place)) (sym (nil_from_length left none)) (inl (known_covers, ap UsedUp left_asking.there), refl))
 
       -- a value comes
-      module _ (v : Bool) (here : drop used readings ≡ v ∷ drop (used + 1) readings) where
-        long : used + 1 ≤ length readings
-        long = omega (arith, length-drop used readings, ap length here)
-
-        at_value : (n : ℕ) (s : Stop)
-            → Walks w.p.goal (reads run.place waiting.c x.fluent.index (steps_of w.p.actions (run.place + 2) waiting.t) (steps_of w.p.actions (past (run.place + 2) waiting.t) waiting.e))
-            (worlds x.knowledge) (v ∷ drop (used + 1) readings) n s
-            → Walks w.p.goal (tree_of w.p) (worlds start) readings (used + n) s
-        at_value n s walk =
-            w.on n s
-            (subst (λ t. Walks w.p.goal t (worlds run.knowledge) (drop used readings) n s) (sym tree_is)
-            (subst (λ vs. Walks w.p.goal (reads run.place waiting.c x.fluent.index (steps_of w.p.actions (run.place + 2) waiting.t) (steps_of w.p.actions (past (run.place + 2) waiting.t) waiting.e)) (worlds run.knowledge) vs n s) (sym here)
-            (subst (λ k. Walks w.p.goal (reads run.place waiting.c x.fluent.index (steps_of w.p.actions (run.place + 2) waiting.t) (steps_of w.p.actions (past (run.place + 2) waiting.t) waiting.e)) (worlds k) (v ∷ drop (used + 1) readings) n s) waiting.knows walk)))
-
-        known_covers : Covers waiting.c (worlds x.knowledge)
-        known_covers = subst (λ k. Covers waiting.c (worlds k)) (sym waiting.knows) waiting.covers
-
+      module _ (v : Bool) (later : List Bool) (here : left ≡ v ∷ later) where
         -- it is refused
-        pub along_refused : (fault : Fault) → Settled worlds x v (Err fault) → Walks w.p.goal (tree_of w.p) (worlds start) readings (used + 1) (Refused fault)
-        along_refused fault settled =
-            let stop : Refused fault ≡ Refused (fault_at Contradiction run.place) = ap Refused (settled.0 ∙ ap (fault_at Contradiction) waiting.there) in
-            at_value 1 (Refused fault) (reads_refused w.p.goal run.place waiting.c x.fluent.index _ _ (worlds x.knowledge) v _ (Refused fault) known_covers settled.1 stop)
+        pub left_refused : (m : ℕ) → m + length later ≡ length readings → (fault : Fault) → Settled worlds x v (Err fault) → Walks w.p.goal (tree_of w.p) (worlds start) readings m (Refused fault)
+        unfolding tree
+        left_refused m all fault settled =
+            let stop : Refused fault ≡ Refused (fault_at Contradiction run.place) = ap Refused (settled.0 ∙ ap (fault_at Contradiction) left_asking.there) in
+            at_node 1 m (Refused fault) (omega (arith, all, ap length here))
+            (subst (λ vs. Walks w.p.goal tree (worlds x.knowledge) vs 1 (Refused fault)) (sym here)
+            (reads_refused w.p.goal run.place left_asking.c x.fluent.index _ _ (worlds x.knowledge) v later (Refused fault) known_covers settled.1 stop))
 
         -- it is learned, and the run stands in its branch
-        module _ (next : Run A) (settled : Settled worlds x v (Ok next)) (goes : next.place ≡ branch x.place v waiting.t) where
-          there : next.place ≡ branch run.place v waiting.t
-          there = goes ∙ ap (λ (j : ℕ). branch j v waiting.t) waiting.there
+        module _ (next : Run A) (settled : Settled worlds x v (Ok next)) (goes : next.place ≡ branch x.place v left_asking.t) where
+          there : next.place ≡ branch run.place v left_asking.t
+          there = goes ∙ ap (λ (j : ℕ). branch j v left_asking.t) left_asking.there
 
-          pub further_settled : run.place < next.place
-          further_settled = omega (arith, there, branch_further run.place v waiting.t)
+          pub left_further : run.place < next.place
+          left_further = omega (arith, there, branch_further run.place v left_asking.t)
 
-          pub along_settled : Along worlds file start readings next (used + 1)
-          along_settled =
+          pub left_settled : Left worlds file start readings next later
+          unfolding tree
+          left_settled =
               let p = w.p in
-              let q = pick v waiting.t waiting.e in
+              let q = pick v left_asking.t left_asking.e in
               record {
                 p = p;
                 is = w.is;
                 q = q;
-                at = subst (λ (j : ℕ). NodeAt p.place p.plan j q) (sym goes) (node_branch p.plan p.place x.place waiting.a v waiting.t waiting.e waiting_node);
-                few = long;
-                on = λ n s walk.
-                    let m : used + suc n ≡ used + 1 + n = omega arith in
-                    subst (λ (j : ℕ). Walks p.goal (tree_of p) (worlds start) readings j s) m
-                    (at_value (suc n) s
-                    (reads_taken p.goal run.place waiting.c x.fluent.index _ _ (worlds x.knowledge) v _ n s known_covers settled.0
-                    (subst (λ t. Walks p.goal t (Told x.fluent.index v (worlds x.knowledge)) (drop (used + 1) readings) n s)
-                    (ap (λ (j : ℕ). steps_of p.actions j q) there ∙ branch_tree p.actions run.place v waiting.t waiting.e)
-                    (walks_same p.goal (steps_of p.actions next.place q) (worlds next.knowledge) (Told x.fluent.index v (worlds x.knowledge)) settled.1 (drop (used + 1) readings) n s walk))));
+                at = subst (λ (j : ℕ). NodeAt p.place p.plan j q) (sym goes)
+                    (node_branch p.plan p.place x.place left_asking.a v left_asking.t left_asking.e left_node);
+                few = omega (arith, w.few, ap length here);
+                on = λ n m s e walk.
+                    at_node (suc n) m s (omega (arith, e, ap length here))
+                    (subst (λ vs. Walks p.goal tree (worlds x.knowledge) vs (suc n) s) (sym here)
+                    (reads_taken p.goal run.place left_asking.c x.fluent.index _ _ (worlds x.knowledge) v later n s known_covers settled.0
+                    (subst (λ t. Walks p.goal t (Told x.fluent.index v (worlds x.knowledge)) later n s)
+                    (ap (λ (j : ℕ). steps_of p.actions j q) there ∙ branch_tree p.actions run.place v left_asking.t left_asking.e)
+                    (walks_same p.goal (steps_of p.actions next.place q) (worlds next.knowledge) (Told x.fluent.index v (worlds x.knowledge)) settled.1 later n s walk))));
               }
+
+-- ---- the same, by how many values were taken
+
+-- The run stands at a node of the plan, and the walk from there along the values behind the first ones goes on what came before.
+pub record Along {A : Type 0} (worlds : A → ℕ → Type 0) (file : List ℕ) (start : A) (readings : List Bool) (run : Run A) (used : ℕ) : Type 0 where
+  pub p : Procedure
+  pub is : procedure_of file ≡ Ok p
+  pub q : Plan
+  pub at : NodeAt p.place p.plan run.place q
+  pub few : used ≤ length readings
+  pub on : (n : ℕ) (s : Stop) → Walks p.goal (steps_of p.actions run.place q) (worlds run.knowledge) (drop used readings) n s
+      → Walks p.goal (tree_of p) (worlds start) readings (used + n) s
+
+module _ {A : Type 0} {worlds : A → ℕ → Type 0} {file : List ℕ} {start : A} {readings : List Bool} {run : Run A} {used : ℕ} where
+  abbrev left_over : Along worlds file start readings run used → Left worlds file start readings run (drop used readings)
+  left_over w = record {
+    p = w.p;
+    is = w.is;
+    q = w.q;
+    at = w.at;
+    few = omega (arith, length-drop used readings);
+    on = λ n m s e walk.
+        let same : used + n ≡ m = omega (arith, length-drop used readings, w.few, e) in
+        subst (λ (j : ℕ). Walks w.p.goal (tree_of w.p) (worlds start) readings j s) same (w.on n s walk);
+  }
+
+  abbrev along : used ≤ length readings → Left worlds file start readings run (drop used readings) → Along worlds file start readings run used
+  along few w = record { p = w.p; is = w.is; q = w.q; at = w.at; few = few; on = λ n s walk. w.on n (used + n) s (omega (arith, length-drop used readings, few)) walk }
+
+module _ {A : Type 0} (worlds : A → ℕ → Type 0) (file : List ℕ) (start : A) (readings : List Bool) where
+  pub along_begun : (p : Procedure) → procedure_of file ≡ Ok p → (run : Run A) → run.place ≡ p.place → run.knowledge ≡ start → Along worlds file start readings run 0
+  along_begun p is run there knows = along (omega arith) (left_begun p is run there knows)
+
+  module _ (run : Run A) (used : ℕ) (w : Along worlds file start readings run used) where
+    all : used + length (drop used readings) ≡ length readings
+    all = omega (arith, length-drop used readings, w.few)
+
+    pub along_within : run.place < past w.p.place w.p.plan
+    along_within = left_within (left_over w)
+
+    module _ (a : ℕ) (next : Run A) (step : Stepped worlds w.p.goal w.p.actions run.place run.knowledge w.q (Did a next)) where
+      pub further_did : run.place < next.place
+      further_did = left_on (left_over w) a next step
+
+      pub along_did : Along worlds file start readings next used
+      along_did = along w.few (left_did (left_over w) a next step)
+
+    pub along_ended : Stepped worlds w.p.goal w.p.actions run.place run.knowledge w.q Ended → Walks w.p.goal (tree_of w.p) (worlds start) readings used EndedWell
+    along_ended step = left_ended (left_over w) used all step
+
+    -- a reading waits
+    module _ (x : Pending A) (step : Stepped worlds w.p.goal w.p.actions run.place run.knowledge w.q (Asks x)) where
+      abbrev pub waiting : Asking worlds w.p.goal w.p.actions run.place run.knowledge w.q x
+      waiting = left_asking (left_over w) x step
+
+      pub waiting_node : NodeAt w.p.place w.p.plan x.place (ask waiting.a waiting.t waiting.e)
+      waiting_node = left_node (left_over w) x step
+
+      pub along_used_up : length readings ≤ used → Walks w.p.goal (tree_of w.p) (worlds start) readings used (UsedUp x.place)
+      along_used_up over = left_used_up (left_over w) x step used all (omega (arith, length-drop used readings, over))
+
+      module _ (v : Bool) (here : drop used readings ≡ v ∷ drop (used + 1) readings) where
+        long : used + 1 ≤ length readings
+        long = omega (arith, length-drop used readings, ap length here)
+
+        pub along_refused : (fault : Fault) → Settled worlds x v (Err fault) → Walks w.p.goal (tree_of w.p) (worlds start) readings (used + 1) (Refused fault)
+        along_refused fault settled = left_refused (left_over w) x step v (drop (used + 1) readings) here (used + 1) (omega (arith, length-drop (used + 1) readings, long)) fault settled
+
+        module _ (next : Run A) (settled : Settled worlds x v (Ok next)) (goes : next.place ≡ branch x.place v waiting.t) where
+          pub further_settled : run.place < next.place
+          further_settled = left_further (left_over w) x step v (drop (used + 1) readings) here next settled goes
+
+          pub along_settled : Along worlds file start readings next (used + 1)
+          along_settled = along long (left_settled (left_over w) x step v (drop (used + 1) readings) here next settled goes)

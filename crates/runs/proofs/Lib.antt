@@ -3,3 +3,4 @@ pub mod Nodes
 pub mod Room
 pub mod Along
 pub mod Ahead
+pub mod Slots

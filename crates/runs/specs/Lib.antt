@@ -1,3 +1,2 @@
 pub mod Knowing
 pub mod Stepping
-pub mod Waiting

@@ -1,12 +1,10 @@
 // Following a plan: every branch that is open, true before false.
 ghost use Rattle.std.specs.Prelude.{◌≡◌, List, Ok};
-ghost use Rattle.knowledge.specs.declared.states.Row.{Row};
-ghost use Rattle.procedure.specs.Procedures.{Procedure, procedure_of};
 ghost use Rattle.meaning.specs.Follows.{Follows, Judges};
-ghost use Rattle.meaning.specs.Laws.{CoveredBy};
-ghost use Rattle.meaning.specs.Rows.{rows_of};
+ghost use Rattle.meaning.specs.Laws.{IfCovered};
 ghost use Rattle.meaning.specs.Steps.{tree_of};
 ghost use Rattle.meaning.specs.declared.answers.Verdict.TheVariants.{Holds};
+ghost use Rattle.procedure.specs.Asked.{IfLoads};
 
 use crate::pending::Branches;
 use crate::run::{Run, Step};
@@ -19,13 +17,12 @@ use procedure::loaded::Loaded;
 // agreeing list of readings ends well, and where it fails some agreeing list leads to that node with that cause (`judges`).
 // From a start that a listed row covers it holds (`covered`).
 pub fn follow<K: Knowledge>(loaded: &Loaded, start: K) -> Verdict
-    ensures value { (p : Procedure) → procedure_of loaded.now.file.now ≡ Ok p → Follows p.goal (tree_of p) (K.worlds start) result }
-    ensures covered { (p : Procedure) → procedure_of loaded.now.file.now ≡ Ok p → (rs : List Row) → rows_of p.goal (tree_of p) ≡ Ok rs → CoveredBy rs (K.worlds start) → result ≡ Holds }
-    ensures judges { (p : Procedure) → procedure_of loaded.now.file.now ≡ Ok p → Judges p.goal (tree_of p) (K.worlds start) result }
+    ensures value { IfLoads loaded.now (λ p. Follows p.goal (tree_of p) (K.worlds start) result) }
+    ensures covered { IfLoads loaded.now (λ p. IfCovered p (K.worlds start) (result ≡ Holds)) }
+    ensures judges { IfLoads loaded.now (λ p. Judges p.goal (tree_of p) (K.worlds start) result) }
 {
     let mut run = Run::begin(loaded, start);
-    let mut waiting = Waiting::filled(run);
-    let mut count = 0;
+    let mut waiting = Waiting::none(run);
     loop {
         match run.step(loaded) {
             Step::Did {
@@ -35,18 +32,14 @@ pub fn follow<K: Knowledge>(loaded: &Loaded, start: K) -> Verdict
             Step::Asks(pending) => match pending.branches(loaded) {
                 Branches::One(next) => run = next,
                 Branches::Both(next, later) => {
-                    waiting = waiting.with(count, later);
-                    count += 1;
+                    waiting.push(later);
                     run = next;
                 }
             },
-            Step::Ended => {
-                if count == 0 {
-                    return Verdict::Holds;
-                }
-                count -= 1;
-                run = waiting.get(count);
-            }
+            Step::Ended => match waiting.pop() {
+                Some(next) => run = next,
+                None => return Verdict::Holds,
+            },
             Step::Failed { place, cause } => return Verdict::Fails { place, cause },
         }
     }

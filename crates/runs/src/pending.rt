@@ -1,8 +1,7 @@
 // A reading that waits for its value, and where it leads.
 ghost use Rattle.std.specs.Prelude.{◌≡◌, ℕ, IfOk, Ok};
-ghost use Rattle.plans.specs.Trees.{Plan, ask, NodeAt};
-ghost use Rattle.procedure.specs.Procedures.{Procedure, procedure_of};
 ghost use Rattle.runs.specs.Stepping.{Settled, Branched, branch};
+ghost use Rattle.procedure.specs.Asked.{IfLoads, IfAsks};
 
 use crate::run::Run;
 use fluents::faults::Fault;
@@ -20,7 +19,8 @@ pub struct Pending<K> {
     pub(crate) knowledge: K,
 }
 
-// Where a reading leads with nothing but what is known: into one branch, or into both, the one for true first.
+// Where a reading leads with nothing but what is known: into one branch, or into both, the one for true first. Named cases are
+// plainer than a run with an optional second.
 #[derive(Clone, Copy)]
 pub enum Branches<K> {
     One(Run<K>),
@@ -53,7 +53,7 @@ impl<K: Knowledge> Pending<K> {
     // reading node.
     pub fn settle(self, loaded: &Loaded, value: bool) -> Result<Run<K>, Fault>
         ensures learned { Settled K.worlds self value result }
-        ensures goes { (p : Procedure) → procedure_of loaded.now.file.now ≡ Ok p → (a : ℕ) (t e : Plan) → NodeAt p.place p.plan self.place (ask a t e) → IfOk result (λ run. run.place ≡ branch self.place value t) }
+        ensures goes { IfLoads loaded.now (λ p. IfAsks p self.place (λ t. IfOk result (λ run. run.place ≡ branch self.place value t))) }
     {
         let Pending {
             place: node,
@@ -61,26 +61,20 @@ impl<K: Knowledge> Pending<K> {
             fluent,
             knowledge,
         } = self;
-        match knowledge.learn(Literal { fluent, value }) {
-            Ok(knowledge) => {
-                let first = node.saturating_add(2);
-                let place = if value {
-                    first
-                } else {
-                    place_past(loaded, first)
-                };
-                Ok(Run { place, knowledge })
-            }
-            Err(fault) => Err(Fault {
-                refusal: fault.refusal,
-                place: node,
-            }),
-        }
+        let learned = knowledge.learn(Literal { fluent, value });
+        let knowledge = learned.map_err(|fault| fault.refusal.at(node))?;
+        let first = node.saturating_add(2);
+        let place = if value {
+            first
+        } else {
+            place_past(loaded, first)
+        };
+        Ok(Run { place, knowledge })
     }
 
     // The branches that what is known leaves open.
     pub fn branches(self, loaded: &Loaded) -> Branches<K>
-        ensures { (p : Procedure) → procedure_of loaded.now.file.now ≡ Ok p → (a : ℕ) (t e : Plan) → NodeAt p.place p.plan self.place (ask a t e) → Branched K.worlds self t result }
+        ensures { IfLoads loaded.now (λ p. IfAsks p self.place (λ t. Branched K.worlds self t result)) }
     {
         let Pending {
             place,

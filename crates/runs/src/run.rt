@@ -1,8 +1,7 @@
 // The steps of a run: it stands at a node of a loaded plan with what is then known.
 ghost use Rattle.std.specs.Prelude.{◌≡◌, Ok};
-ghost use Rattle.plans.specs.Trees.{Plan, NodeAt};
-ghost use Rattle.procedure.specs.Procedures.{Procedure, procedure_of};
 ghost use Rattle.runs.specs.Stepping.{Stepped};
+ghost use Rattle.procedure.specs.Asked.{IfLoads, IfNode};
 
 use crate::conditions::knows_all;
 use crate::pending::Pending;
@@ -31,7 +30,7 @@ pub enum Step<K> {
 impl<K: Knowledge> Run<K> {
     // The run at the root of the plan.
     pub fn begin(loaded: &Loaded, start: K) -> Run<K>
-        ensures { (result.knowledge ≡ start) × ((p : Procedure) → procedure_of loaded.now.file.now ≡ Ok p → result.place ≡ p.place) }
+        ensures { (result.knowledge ≡ start) × IfLoads loaded.now (λ p. result.place ≡ p.place) }
     {
         Run {
             place: loaded.plan().place,
@@ -48,7 +47,7 @@ impl<K: Knowledge> Run<K> {
 
     // One step from the node at which the run stands.
     pub fn step(self, loaded: &Loaded) -> Step<K>
-        ensures { (p : Procedure) → procedure_of loaded.now.file.now ≡ Ok p → (q : Plan) → NodeAt p.place p.plan self.place q → Stepped K.worlds p.goal p.actions self.place self.knowledge q result }
+        ensures { IfLoads loaded.now (λ p. IfNode p self.place (λ q. Stepped K.worlds p.goal p.actions self.place self.knowledge q result)) }
     {
         let Run { place, knowledge } = self;
         match node_at(loaded, place) {

@@ -1,12 +1,13 @@
 // The halves that wait while following a plan.
-ghost use Rattle.std.specs.Prelude.{◌≡◌, ℕ, ◌<◌, ◌≢◌};
-ghost use Rattle.runs.specs.Waiting.{slot};
+ghost use Rattle.std.specs.Prelude.{◌≡◌, ◌<◌, [], ◌∷◌, length, MatchOption};
 
 use crate::run::Run;
 use knowledge::kinds::Knowledge;
+use std::marker::Model;
 
-// At most eight runs wait, one for each reading on a path.
-#[derive(Clone, Copy)]
+// At most eight runs wait, one for each reading on a path; they are seen as their list, newest first. Eight named fields,
+// since a rule of the project keeps knowledge out of arrays.
+#[derive(Drop)]
 pub(crate) struct Waiting<K> {
     first: Run<K>,
     second: Run<K>,
@@ -16,55 +17,75 @@ pub(crate) struct Waiting<K> {
     sixth: Run<K>,
     seventh: Run<K>,
     eighth: Run<K>,
+    count: usize,
+}
+
+impl<K> Model for Waiting<K> {
+    ghost use Rattle.std.specs.Prelude.{◌≤◌, List, [], ◌∷◌, take};
+    ghost use Rattle.runs.specs.declared.run.Run.{Run};
+
+    ghost Value = { List (Run K) };
+
+    ghost view = { λ w. take w.count (w.first ∷ w.second ∷ w.third ∷ w.fourth ∷ w.fifth ∷ w.sixth ∷ w.seventh ∷ w.eighth ∷ []) };
+
+    ghost invariant = { λ w. w.count ≤ 8 };
 }
 
 impl<K: Knowledge> Waiting<K> {
-    // The run in every slot.
-    pub(crate) fn filled(run: Run<K>) -> Waiting<K>
-        ensures { (result.first ≡ run) × (result.second ≡ run) × (result.third ≡ run) × (result.fourth ≡ run) × (result.fifth ≡ run) × (result.sixth ≡ run) × (result.seventh ≡ run) × (result.eighth ≡ run) }
+    // No run waits; some run has to fill the slots.
+    pub(crate) fn none(filler: Run<K>) -> Waiting<K>
+        ensures { result ≡ [] }
     {
         Waiting {
+            first: filler,
+            second: filler,
+            third: filler,
+            fourth: filler,
+            fifth: filler,
+            sixth: filler,
+            seventh: filler,
+            eighth: filler,
+            count: 0,
+        }
+    }
+
+    // Adds a run; there must be room.
+    pub(crate) fn push(&mut self, run: Run<K>)
+        requires { length self.old < 8 }
+        ensures { self.new ≡ run ∷ self.old }
+    {
+        *self = Waiting {
             first: run,
-            second: run,
-            third: run,
-            fourth: run,
-            fifth: run,
-            sixth: run,
-            seventh: run,
-            eighth: run,
-        }
+            second: self.first,
+            third: self.second,
+            fourth: self.third,
+            fifth: self.fourth,
+            sixth: self.fifth,
+            seventh: self.sixth,
+            eighth: self.seventh,
+            count: self.count + 1,
+        };
     }
 
-    // The run in a slot; the last slot stands for all behind it.
-    pub(crate) fn get(self, i: usize) -> Run<K>
-        ensures { result ≡ slot self i }
+    // Takes out the newest run, if one waits.
+    pub(crate) fn pop(&mut self) -> Option<Run<K>>
+        ensures { MatchOption result ((self.old ≡ []) × (self.new ≡ [])) (λ run. self.old ≡ run ∷ self.new) }
     {
-        match i {
-            0 => self.first,
-            1 => self.second,
-            2 => self.third,
-            3 => self.fourth,
-            4 => self.fifth,
-            5 => self.sixth,
-            6 => self.seventh,
-            _ => self.eighth,
+        if self.count == 0 {
+            return None;
         }
-    }
-
-    // The same with the run in this slot, which is one of the eight.
-    pub(crate) fn with(mut self, i: usize, run: Run<K>) -> Waiting<K>
-        ensures { i < 8 → (slot result i ≡ run) × ((j : ℕ) → j < 8 → (j ≢ i) → slot result j ≡ slot self j) }
-    {
-        match i {
-            0 => self.first = run,
-            1 => self.second = run,
-            2 => self.third = run,
-            3 => self.fourth = run,
-            4 => self.fifth = run,
-            5 => self.sixth = run,
-            6 => self.seventh = run,
-            _ => self.eighth = run,
-        }
-        self
+        let run = self.first;
+        *self = Waiting {
+            first: self.second,
+            second: self.third,
+            third: self.fourth,
+            fourth: self.fifth,
+            fifth: self.sixth,
+            sixth: self.seventh,
+            seventh: self.eighth,
+            eighth: self.eighth,
+            count: self.count - 1,
+        };
+        Some(run)
     }
 }

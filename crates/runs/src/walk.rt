@@ -1,12 +1,12 @@
 // The walk along a list of readings.
 ghost use Rattle.std.specs.Prelude.{◌≡◌, List, Ok};
 ghost use Rattle.knowledge.specs.declared.states.Row.{Row};
-ghost use Rattle.procedure.specs.Procedures.{Procedure, procedure_of};
-ghost use Rattle.meaning.specs.Laws.{CoveredBy, NoFailure, Safe};
+ghost use Rattle.meaning.specs.Laws.{NoFailure, Safe, IfCovered};
 ghost use Rattle.meaning.specs.Rows.{rows_of};
 ghost use Rattle.meaning.specs.Steps.{tree_of};
 ghost use Rattle.meaning.specs.Walks.{Walks, Agrees};
 ghost use Rattle.meaning.specs.declared.answers.Stop.TheVariants.{EndedWell};
+ghost use Rattle.procedure.specs.Asked.{IfLoads};
 
 use crate::run::{Run, Step};
 use knowledge::kinds::Knowledge;
@@ -24,50 +24,36 @@ pub struct Walked {
 // it comes to no failing node, and where the readings agree with the start it ends well; `safe` says the same of every list
 // of readings.
 pub fn walk<K: Knowledge>(loaded: &Loaded, start: K, readings: &[bool]) -> Walked
-    ensures value { (p : Procedure) → procedure_of loaded.now.file.now ≡ Ok p → Walks p.goal (tree_of p) (K.worlds start) readings.now result.used result.stop }
-    ensures covered { (p : Procedure) → procedure_of loaded.now.file.now ≡ Ok p → (rs : List Row) → rows_of p.goal (tree_of p) ≡ Ok rs → CoveredBy rs (K.worlds start) → NoFailure result.stop × (Agrees p.goal (tree_of p) (K.worlds start) readings.now → result.stop ≡ EndedWell) }
-    ensures safe { (p : Procedure) → procedure_of loaded.now.file.now ≡ Ok p → (rs : List Row) → rows_of p.goal (tree_of p) ≡ Ok rs → Safe p.goal (tree_of p) rs (K.worlds start) }
+    ensures value { IfLoads loaded.now (λ p. Walks p.goal (tree_of p) (K.worlds start) readings.now result.used result.stop) }
+    ensures covered { IfLoads loaded.now (λ p. IfCovered p (K.worlds start) (NoFailure result.stop × (Agrees p.goal (tree_of p) (K.worlds start) readings.now → result.stop ≡ EndedWell))) }
+    ensures safe { IfLoads loaded.now (λ p. (rs : List Row) → rows_of p.goal (tree_of p) ≡ Ok rs → Safe p.goal (tree_of p) rs (K.worlds start)) }
 {
     let mut run = Run::begin(loaded, start);
-    let mut used = 0;
-    loop {
+    let mut left = readings;
+    let stop = loop {
         match run.step(loaded) {
             Step::Did {
                 number: _,
                 run: next,
             } => run = next,
             Step::Asks(pending) => {
-                if used >= readings.len() {
-                    let place = pending.place();
-                    return Walked {
-                        stop: Stop::UsedUp { place },
-                        used,
+                let Some((value, later)) = left.split_first() else {
+                    break Stop::UsedUp {
+                        place: pending.place(),
                     };
-                }
-                let value = readings[used];
-                used += 1;
-                match pending.settle(loaded, value) {
+                };
+                left = later;
+                match pending.settle(loaded, *value) {
                     Ok(next) => run = next,
-                    Err(fault) => {
-                        return Walked {
-                            stop: Stop::Refused(fault),
-                            used,
-                        };
-                    }
+                    Err(fault) => break Stop::Refused(fault),
                 }
             }
-            Step::Ended => {
-                return Walked {
-                    stop: Stop::EndedWell,
-                    used,
-                };
-            }
-            Step::Failed { place, cause } => {
-                return Walked {
-                    stop: Stop::Failed { place, cause },
-                    used,
-                };
-            }
+            Step::Ended => break Stop::EndedWell,
+            Step::Failed { place, cause } => break Stop::Failed { place, cause },
         }
+    };
+    Walked {
+        stop,
+        used: readings.len() - left.len(),
     }
 }

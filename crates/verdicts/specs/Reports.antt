@@ -7,8 +7,6 @@ use Rattle.meaning.specs.Follows.{Follows}
 use Rattle.meaning.specs.Rows.{rows_of}
 use Rattle.meaning.specs.Starts.{worlds_of}
 use Rattle.meaning.specs.Steps.{tree_of}
-use Rattle.verdicts.specs.declared.text.Report.{Report}
-use Rattle.verdicts.specs.declared.text.Report.TheVariants.{Checked, Refused}
 use Rattle.verdicts.specs.declared.findings.Findings.{Findings}
 
 -- the rows that were found
@@ -16,11 +14,11 @@ abbrev pub rows_in : Findings → List Row
 rows_in f = take f.count f.rows
 
 -- What is found about a procedure from the worlds K: the verdict and the rows, or the refusal of the rows.
-abbrev pub Found : Procedure → (ℕ → Type 0) → Report → Type 0
-Found p K (Checked f) = Follows p.goal (tree_of p) K f.verdict × (rows_of p.goal (tree_of p) ≡ Ok (rows_in f))
-Found p K (Refused fault) = rows_of p.goal (tree_of p) ≡ Err fault
+abbrev pub Found : Procedure → (ℕ → Type 0) → Result Findings Fault → Type 0
+Found p K (Ok f) = Follows p.goal (tree_of p) K f.verdict × (rows_of p.goal (tree_of p) ≡ Ok (rows_in f))
+Found p K (Err fault) = rows_of p.goal (tree_of p) ≡ Err fault
 
 -- What is said about a file, by its procedure and the start in it, or by its refusal.
-abbrev pub Reported : Result Procedure Fault → Report → Type 0
+abbrev pub Reported : Result Procedure Fault → Result Findings Fault → Type 0
 Reported (Ok p) r = Found p (worlds_of p.start) r
-Reported (Err fault) r = r ≡ Refused fault
+Reported (Err fault) r = r ≡ Err fault

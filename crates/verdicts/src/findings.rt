@@ -6,7 +6,7 @@ use meaning::answers::Verdict;
 
 pub mod makers;
 
-// The verdict at the start, and at most 16 rows, at the front of an array.
+// The verdict at the start, and at most 16 rows, at the front of an array: the type is `Copy`, and an `ArrayVec` is not.
 #[derive(Clone, Copy)]
 pub struct Findings {
     verdict: Verdict,

@@ -1,64 +1,33 @@
-// A report on a procedure file, and its text.
-ghost use Rattle.std.specs.Prelude.{◌≡◌, IfOk, string_bytes};
-ghost use Rattle.verdicts.specs.Lines.{row_line, row_lines, findings_text, text_of};
+// The text of a report on a procedure file, each line with its break.
+ghost use Rattle.std.specs.Prelude.{◌≡◌, IfOk, Some, string_bytes};
+ghost use Rattle.verdicts.specs.Lines.{findings_text, text_of};
 
 use crate::findings::Findings;
 use fluents::faults::Fault;
-use knowledge::states::Row;
 use std::alloc::{AllocError, Global};
+use std::fmt;
 
-// Either the file was loaded and checked, or something was refused.
-#[derive(Clone, Copy)]
-pub enum Report {
-    Checked(Findings),
-    Refused(Fault),
-}
+// The verdict, how many rows there are, and a line for each row: its true fluents, then its false ones.
+impl fmt::Display for Findings {
+    ghost output = { λ found. Some (findings_text found) };
 
-// The line of a row: its true fluents, then its false ones.
-fn row_line(heap: Global, row: Row) -> Result<String, AllocError>
-    ensures { IfOk result (λ s. string_bytes s ≡ row_line row) }
-{
-    let trues = row.trues;
-    let falses = row.falses;
-    format!(in heap; "{trues} {falses}\n")
-}
-
-// A line for each row.
-fn row_lines(heap: Global, rows: &[Row]) -> Result<String, AllocError>
-    ensures { IfOk result (λ s. string_bytes s ≡ row_lines rows.now) }
-{
-    let mut text = String::new(heap);
-    for row in rows {
-        let line = row_line(heap, *row)?;
-        text.push_str(line.as_str())?;
+    fn fmt<W: fmt::Write>(&self, f: &mut fmt::Formatter<W>) -> fmt::Result {
+        let rows = self.rows();
+        writeln!(f, "{}\nrows {}", self.verdict(), rows.len())?;
+        for row in rows {
+            writeln!(f, "{} {}", row.trues, row.falses)?;
+        }
+        Ok(())
     }
-    Ok(text)
 }
 
-// The verdict, how many rows there are, and the rows, a line each.
-fn findings_text(heap: Global, found: &Findings) -> Result<String, AllocError>
-    ensures { IfOk result (λ s. string_bytes s ≡ findings_text found.now) }
-{
-    let verdict = found.verdict();
-    let rows = found.rows();
-    let count = rows.len();
-    let mut text = format!(in heap; "{verdict}\nrows {count}\n")?;
-    let lines = row_lines(heap, rows)?;
-    text.push_str(lines.as_str())?;
-    Ok(text)
-}
-
-// The whole text of a report, each line with its break.
-pub fn text(heap: Global, report: &Report) -> Result<String, AllocError>
+// The whole text: what was found, or why the file was refused.
+pub fn text(heap: Global, report: &Result<Findings, Fault>) -> Result<String, AllocError>
     ensures { IfOk result (λ s. string_bytes s ≡ text_of report.now) }
 {
     match report {
-        Report::Checked(found) => findings_text(heap, found),
-        Report::Refused(fault) => {
-            let number = fault.number();
-            let place = fault.place;
-            format!(in heap; "refused {number} {place}\n")
-        }
+        Ok(found) => format!(in heap; "{found}"),
+        Err(fault) => format!(in heap; "{fault}\n"),
     }
 }
 
@@ -66,6 +35,7 @@ pub fn text(heap: Global, report: &Report) -> Result<String, AllocError>
 mod tests {
     use super::*;
     use fluents::faults::Refusal;
+    use knowledge::states::Row;
     use meaning::answers::{Cause, Verdict};
     use std::test::Fail;
 
@@ -81,8 +51,8 @@ mod tests {
             place: 189,
             cause: Cause::Gap,
         };
-        let report = Report::Checked(Findings::new(verdict, rows, 2));
-        let text = text(rt.alloc(), &report)?;
+        let found = Findings::new(verdict, rows, 2);
+        let text = text(rt.alloc(), &Ok(found))?;
         assert_eq!(rt;
             text.as_str(),
             "fails 189 3\nrows 2\n0 5\n18446744073709551615 0\n"
@@ -92,11 +62,8 @@ mod tests {
 
     #[test]
     fn a_refused_file_has_number_and_place(rt: HostRuntime) -> Result<(), Fail> {
-        let report = Report::Refused(Fault {
-            refusal: Refusal::TooManyRows,
-            place: 65535,
-        });
-        let text = text(rt.alloc(), &report)?;
+        let fault = Refusal::TooManyRows.at(65535);
+        let text = text(rt.alloc(), &Err(fault))?;
         assert_eq!(rt; text.as_str(), "refused 9 65535\n");
         Ok(())
     }

@@ -1,41 +1,36 @@
-use Rattle.std.proofs.Common.{◌∙◌, refl, ap, inl, ℕ, Some, rules}
-use Rattle.panel.specs.declared.answers.Confirmed.TheVariants.{Did, Reads, Ended}
-use Rattle.client.proofs.Returned.{before_ended, told_first}
+use Rattle.std.proofs.Common.{refl, sym, ap, ◌∙◌, subst, inl, inr, ℕ, rules}
+use Rattle.plans.specs.Trees.{NodeAt}
+use Rattle.plans.proofs.Places.{node_root}
+use Rattle.procedure.specs.Procedures.{procedure_of}
+use Rattle.panel.proofs.Keeping.{as_before}
 use Rattle.client.proofs.first_action.Goals as goal
+use Rattle.client.proofs.first_action.Goals.{in-Ok, in-Err}
 
-pub returns-in-Did-clause-first : goal.returns-in-Did-clause-first
-returns-in-Did-clause-first c = λ p is.
-    inl ((c.in-Ok.ensures.value.root p is).1, told_first c.args.loaded c.args.start _ c.in-Ok.armed c.in-Ok.ensures.value (Did c.in-Did.number c.in-Did.armed) c.in-Did.ensures p is)
+pub returns-clause-first : goal.returns-clause-first
+returns-clause-first c = λ p is.
+    elim c.match-arm.branch [
+      | in-Ok w ↦
+          let armed = w.in-Ok.ensures.value in
+          let root = armed.root p is in
+          rw w.number-is
+          (inl (
+            root.1,
+            w.number_here.ensures.number p (ap (λ v. procedure_of v.file.now) armed.same ∙ is) p.plan (subst (λ (j : ℕ). NodeAt p.place p.plan j p.plan) (sym root.0) (node_root p.plan p.place)),
+          ))
+      | in-Err w ↦ rw w.number-is (inr (_, _, (w.in-Err.ensures.value.fails p is).0, refl))
+    ]
 
-pub returns-in-Reads-clause-first : goal.returns-in-Reads-clause-first
-returns-in-Reads-clause-first c = λ p is.
-    inl (
-      (c.in-Ok.ensures.value.root p is).1,
-      ap (λ (n : ℕ). Some n) c.number-number.ensures
-          ∙ told_first c.args.loaded c.args.start _ c.in-Ok.armed c.in-Ok.ensures.value (Reads c.in-Reads.reading) c.in-Reads.ensures p is,
-    )
-
-pub returns-in-Ended-clause-first : goal.returns-in-Ended-clause-first
-returns-in-Ended-clause-first c = λ p is.
-    inl ((c.in-Ok.ensures.value.root p is).1, told_first c.args.loaded c.args.start _ c.in-Ok.armed c.in-Ok.ensures.value (Ended c.in-Ended.over) c.in-Ended.ensures p is)
-
-pub returns-in-Did-clause-word : goal.returns-in-Did-clause-word
-returns-in-Did-clause-word c =
-    let back = before_ended c.args.loaded c.args.start _ c.in-Ok.armed c.in-Ok.ensures.value (Did c.in-Did.number c.in-Did.armed) c.give_up.result c.in-Did.ensures c.give_up.ensures in
-    let held = back.held in
-    let kept = back.kept in
-    search rules
-
-pub returns-in-Reads-clause-word : goal.returns-in-Reads-clause-word
-returns-in-Reads-clause-word c =
-    let back = before_ended c.args.loaded c.args.start _ c.in-Ok.armed c.in-Ok.ensures.value (Reads c.in-Reads.reading) c.withdraw.result c.in-Reads.ensures c.withdraw.ensures in
-    let held = back.held in
-    let kept = back.kept in
-    search rules
-
-pub returns-in-Ended-clause-word : goal.returns-in-Ended-clause-word
-returns-in-Ended-clause-word c =
-    let back = before_ended c.args.loaded c.args.start _ c.in-Ok.armed c.in-Ok.ensures.value (Ended c.in-Ended.over) c.in-Ended.over c.in-Ended.ensures refl in
-    let held = back.held in
-    let kept = back.kept in
-    search rules
+pub returns-clause-word : goal.returns-clause-word
+returns-clause-word c =
+    elim c.match-arm.branch [
+      | in-Ok w ↦
+          let back = as_before c.args.loaded c.args.start _ w.in-Ok.armed _ w.in-Ok.ensures.value w.number_here.ensures.back in
+          let held = ap (λ v. v.1.word.ghost_name) w.number-is ∙ back.held in
+          let kept = ap (λ v. v.1.word.now) w.number-is ∙ back.kept in
+          search rules
+      | in-Err w ↦
+          let back = w.in-Err.ensures.value.back in
+          let held = ap (λ v. v.1.word.ghost_name) w.number-is ∙ ap (λ o. o.word.ghost_name) w.given_back.ensures ∙ back.held in
+          let kept = ap (λ v. v.1.word.now) w.number-is ∙ ap (λ o. o.word.now) w.given_back.ensures ∙ back.kept in
+          search rules
+    ]

@@ -1,5 +1,5 @@
-use Rattle.client.proofs.Returned.{settled_back}
+use Rattle.panel.proofs.Keeping.{back_then}
 use Rattle.client.proofs.settle.Goals as goal
 
-pub returns-in-Goes : goal.returns-in-Goes
-returns-in-Goes c = settled_back c.args.reading c.in-Goes.armed c.confirm.result c.end.result c.in-Goes.ensures c.confirm.ensures c.end.ensures
+pub returns-in-Ok : goal.returns-in-Ok
+returns-in-Ok c = back_then _ c.in-Ok.armed.permitted _ c.in-Ok.ensures.value.0 (c.end.ensures _ c.confirm.ensures.kept)

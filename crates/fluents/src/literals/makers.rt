@@ -15,10 +15,7 @@ impl Fluent {
         if index < 64 {
             Ok(Fluent { index })
         } else {
-            Err(Fault {
-                refusal: Refusal::BadField,
-                place: 0,
-            })
+            Err(Refusal::BadField.into())
         }
     }
 

@@ -2,13 +2,15 @@
 ghost use Rattle.std.specs.Prelude.{◌≡◌, ◌<◌, ◌≤◌, MatchResult};
 ghost use Rattle.fluents.specs.Refusals.{fault_at};
 ghost use Rattle.fluents.specs.Sets.{Apart};
+ghost use Rattle.knowledge.specs.Meaning.{after};
 ghost use Rattle.fluents.specs.declared.faults.Refusal.TheVariants.{BadField};
 
 use super::{DoingAction, ReadingAction};
 use crate::states::PartialState;
+use crate::worlds::World;
 use fluents::faults::{Fault, Refusal};
 use fluents::literals::Fluent;
-use fluents::sets::Set;
+use fluents::sets::{Set, minus};
 
 impl DoingAction {
     // The action with these effects, or a refusal exactly where it would make a fluent both true and false.
@@ -22,10 +24,7 @@ impl DoingAction {
                 del,
             })
         } else {
-            Err(Fault {
-                refusal: Refusal::BadField,
-                place: 0,
-            })
+            Err(Refusal::BadField.into())
         }
     }
 
@@ -47,6 +46,13 @@ impl DoingAction {
         ensures { result ≡ self.del }
     {
         self.del
+    }
+
+    // The world after the action: without Del, with Add; every other fluent keeps its value.
+    pub fn after(self, world: World) -> World
+        ensures { result ≡ after self world }
+    {
+        minus(world, self.del) | self.add
     }
 }
 

@@ -14,7 +14,7 @@ use crate::actions::DoingAction;
 use crate::kinds::Knowledge;
 use fluents::faults::{Fault, Refusal};
 use fluents::literals::Literal;
-use fluents::sets::has;
+use fluents::sets::{has, minus};
 
 impl Knowledge for PartialState {
     ghost worlds = { Extends };
@@ -40,12 +40,12 @@ impl Knowledge for PartialState {
         let add = action.add();
         let del = action.del();
         PartialState {
-            trues: self.trues ^ (self.trues & del) | add,
-            falses: self.falses ^ (self.falses & add) | del,
+            trues: minus(self.trues, del) | add,
+            falses: minus(self.falses, add) | del,
         }
     }
 
-    // The literal joins the state.
+    // The literal joins the state. One branch for each value, since the value decides which set gains the fluent.
     fn learn(self, literal: Literal) -> Result<PartialState, Fault>
         ensures meaning { MatchResult result (λ k. Same (Extends k) (Learned literal (Extends self))) (λ e. (e ≡ fault_at Contradiction 0) × ((w : ℕ) → Extends self w → HoldsIn literal w → ⊥)) }
         ensures fields { IfOk result (λ k. (k.trues ≡ (if literal.value then union self.trues (only literal.fluent.index) else self.trues)) × (k.falses ≡ (if literal.value then self.falses else union self.falses (only literal.fluent.index)))) }
@@ -53,7 +53,7 @@ impl Knowledge for PartialState {
         let alone = literal.fluent.alone();
         if literal.value {
             if self.falses & alone != 0 {
-                return Err(contradiction());
+                return Err(Refusal::Contradiction.into());
             }
             Ok(PartialState {
                 trues: self.trues | alone,
@@ -61,22 +61,12 @@ impl Knowledge for PartialState {
             })
         } else {
             if self.trues & alone != 0 {
-                return Err(contradiction());
+                return Err(Refusal::Contradiction.into());
             }
             Ok(PartialState {
                 trues: self.trues,
                 falses: self.falses | alone,
             })
         }
-    }
-}
-
-// What is said of a value that no world has.
-fn contradiction() -> Fault
-    ensures { result ≡ fault_at Contradiction 0 }
-{
-    Fault {
-        refusal: Refusal::Contradiction,
-        place: 0,
     }
 }

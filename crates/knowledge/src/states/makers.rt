@@ -16,10 +16,7 @@ impl PartialState {
         if trues & falses == 0 {
             Ok(PartialState { trues, falses })
         } else {
-            Err(Fault {
-                refusal: Refusal::BadField,
-                place: 0,
-            })
+            Err(Refusal::BadField.into())
         }
     }
 
@@ -36,23 +33,27 @@ impl PartialState {
     {
         self.falses
     }
+}
 
-    // The plain numbers of the state.
-    pub fn row(self) -> Row
-        ensures { (result.trues ≡ self.trues) × (result.falses ≡ self.falses) }
-    {
+// The plain numbers of the state.
+impl From<PartialState> for Row {
+    ghost from_gives = { λ state row. (row.trues ≡ state.trues) × (row.falses ≡ state.falses) };
+
+    fn from(state: PartialState) -> Row {
         Row {
-            trues: self.trues,
-            falses: self.falses,
+            trues: state.trues,
+            falses: state.falses,
         }
     }
 }
 
-impl Row {
-    // The state that these numbers stand for, or a refusal exactly where they stand for none.
-    pub fn state(self) -> Result<PartialState, Fault>
-        ensures { MatchResult result (λ s. Apart self.trues self.falses × (s.trues ≡ self.trues) × (s.falses ≡ self.falses)) (λ e. (Apart self.trues self.falses → ⊥) × (e ≡ fault_at BadField 0)) }
-    {
-        PartialState::new(self.trues, self.falses)
+// The state that the numbers stand for, or a refusal exactly where they stand for none.
+impl TryFrom<Row> for PartialState {
+    type Error = Fault;
+
+    ghost try_from_gives = { λ row answer. MatchResult answer (λ s. Apart row.trues row.falses × (s.trues ≡ row.trues) × (s.falses ≡ row.falses)) (λ e. (Apart row.trues row.falses → ⊥) × (e ≡ fault_at BadField 0)) };
+
+    fn try_from(row: Row) -> Result<PartialState, Fault> {
+        PartialState::new(row.trues, row.falses)
     }
 }

@@ -8,18 +8,17 @@ use super::{World, WorldList};
 use crate::orders::Distinct;
 use fluents::faults::{Fault, Refusal};
 use least::keep_least;
+use std::array;
 
-// The worlds in an array, in the same order.
+// The worlds in an array, in the same order, as elements of the keeper's kind; a list itself holds plain numbers.
 fn spread(worlds: &[World]) -> [Distinct; 64]
     requires { length worlds.now ≤ 64 }
     ensures long { length result ≡ 64 }
     ensures front { map world_of (take (length worlds.now) result) ≡ worlds.now }
 {
-    let mut items = [Distinct { world: 0 }; 64];
-    for (i, world) in worlds.iter().enumerate() {
-        items[i] = Distinct { world: *world };
-    }
-    items
+    array::from_fn(|i| Distinct {
+        world: worlds.get(i).copied().unwrap_or(0),
+    })
 }
 
 // The worlds in an array, in the same order, and zeros after them.
@@ -29,11 +28,7 @@ fn padded(items: &[Distinct]) -> [World; 64]
     ensures front { take (length items.now) result ≡ map world_of items.now }
     ensures blank { (k : ℕ) → length items.now ≤ k → slice_index result k ≡ 0 }
 {
-    let mut array = [0; 64];
-    for (i, item) in items.iter().enumerate() {
-        array[i] = item.world;
-    }
-    array
+    array::from_fn(|i| items.get(i).copied().unwrap_or(Distinct { world: 0 }).world)
 }
 
 impl WorldList {
@@ -42,17 +37,13 @@ impl WorldList {
     pub fn new(worlds: &[World]) -> Result<WorldList, Fault>
         ensures { MatchResult result (λ l. FitCount (length worlds.now) × SameWorlds (list_of l) worlds.now) (λ e. (FitCount (length worlds.now) → ⊥) × (e ≡ fault_at UnfitLength 0)) }
     {
-        let count = worlds.len();
-        if count < 1 || count > 64 {
-            return Err(Fault {
-                refusal: Refusal::UnfitLength,
-                place: 0,
-            });
+        if !(1..=64).contains(&worlds.len()) {
+            return Err(Refusal::UnfitLength.into());
         }
         let mut items = spread(worlds);
-        let len = keep_least(&mut items[0..count]);
+        let len = keep_least(&mut items[..worlds.len()]);
         Ok(WorldList {
-            worlds: padded(&items[0..len]),
+            worlds: padded(&items[..len]),
             len,
         })
     }
@@ -77,17 +68,13 @@ impl WorldList {
     pub fn get(&self, i: usize) -> Option<World>
         ensures { MatchOption result (length (list_of self.now) ≤ i) (λ w. (i < length (list_of self.now)) × (w ≡ slice_index (list_of self.now) i)) }
     {
-        if i < self.len {
-            Some(self.worlds[i])
-        } else {
-            None
-        }
+        self.as_slice().get(i).copied()
     }
 
     // The worlds, in ascending order.
     pub fn as_slice(&self) -> &[World]
         ensures { result.now ≡ list_of self.now }
     {
-        &self.worlds[0..self.len]
+        &self.worlds[..self.len]
     }
 }

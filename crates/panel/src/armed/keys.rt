@@ -1,35 +1,30 @@
 // The keys of an armed run.
-ghost use Rattle.std.specs.Prelude.{◌≡◌, true, List, is_ok, Ok, MatchResult};
-ghost use Rattle.knowledge.specs.declared.states.Row.{Row};
-ghost use Rattle.meaning.specs.Laws.{CoveredBy};
-ghost use Rattle.meaning.specs.Rows.{rows_of};
-ghost use Rattle.meaning.specs.Steps.{tree_of};
-ghost use Rattle.procedure.specs.Procedures.{Procedure, procedure_of};
+ghost use Rattle.std.specs.Prelude.{◌≡◌, ◌<◌, true, List, length, is_ok, Ok, MatchResult};
+ghost use Rattle.meaning.specs.Laws.{IfCovered};
 ghost use Rattle.panel.specs.Arming.{ArmedAs, RefusedAs};
 ghost use Rattle.panel.specs.Cases.{worlds_in};
-ghost use Rattle.panel.specs.Confirming.{ConfirmedAs, GivenBack};
-ghost use Rattle.plans.specs.Trees.{Plan, NodeAt};
+ghost use Rattle.panel.specs.Confirming.{ConfirmedAs, GivenBack, Keeps, Onward};
+ghost use Rattle.procedure.specs.Asked.{IfLoads, IfNode};
 
 use super::Armed;
-use crate::answers::{Confirmed, Over};
+use crate::answers::{Confirmed, Over, Rejection};
 use crate::known::Known;
+use crate::permitted::Permitted;
 use crate::reading::Reading;
-use fluents::faults::{Fault, Refusal};
+use fluents::faults::Refusal;
 use kept::Kept;
-use meaning::answers::{Cause, Verdict};
+use meaning::answers::Verdict;
 use permit::Permit;
 use procedure::loaded::Loaded;
 use runs::follow::follow;
 use runs::run::{Run, Step};
 
-// What a refused Arm gives back: the procedure, the start and the word as they were, and why the plan fails.
+// What a refused Arm gives back: the procedure and the word as they were, the start, and why the plan fails.
 #[derive(Drop)]
 pub struct Unarmed<'f, 'w> {
-    pub loaded: Kept<Loaded<'f>>,
+    pub over: Over<'f, 'w>,
     pub start: Known,
-    pub word: &'w mut u32,
-    pub fault: Fault,
-    pub cause: Cause,
+    pub why: Rejection,
 }
 
 impl<'f, 'w> Armed<'f, 'w> {
@@ -40,89 +35,71 @@ impl<'f, 'w> Armed<'f, 'w> {
         word: &'w mut u32,
     ) -> Result<Armed<'f, 'w>, Unarmed<'f, 'w>>
         ensures value { MatchResult result (ArmedAs loaded.entry start word.entry) (RefusedAs loaded.entry start word.entry) }
-        ensures covered { (p : Procedure) → procedure_of loaded.entry.file.now ≡ Ok p → (rs : List Row) → rows_of p.goal (tree_of p) ≡ Ok rs → CoveredBy rs (worlds_in start) → is_ok result ≡ true }
+        ensures covered { IfLoads loaded.entry (λ p. IfCovered p (worlds_in start) (is_ok result ≡ true)) }
     {
         match follow(&loaded, start) {
             Verdict::Holds => {
                 let run = Run::begin(&loaded, start);
                 let permit = Permit::raise(word);
-                Ok(Armed {
-                    loaded: Kept::put(loaded),
-                    run,
-                    permit,
+                let loaded = Kept::put(loaded);
+                let permitted = Permitted { loaded, permit };
+                Ok(Armed { permitted, run })
+            }
+            Verdict::Fails { place, cause } => {
+                let fault = Refusal::VerdictFails.at(place);
+                let loaded = Kept::put(loaded);
+                Err(Unarmed {
+                    over: Over { loaded, word },
+                    start,
+                    why: Rejection { fault, cause },
                 })
             }
-            Verdict::Fails { place, cause } => Err(Unarmed {
-                loaded: Kept::put(loaded),
-                start,
-                word,
-                fault: Fault {
-                    refusal: Refusal::VerdictFails,
-                    place,
-                },
-                cause,
-            }),
         }
     }
 
-    // The place of the node at which the run stands.
+    // The place of the node at which the run stands, within the file.
     pub fn place(&self) -> usize
-        ensures { result ≡ self.now.run.place }
+        ensures value { result ≡ self.now.run.place }
+        ensures within { result < length self.now.permitted.loaded.value.file.now }
     {
         self.run.place()
     }
 
     // The permit word as it is now.
     pub fn word(&self) -> u32
-        ensures { result ≡ self.now.permit.word.now }
+        ensures { result ≡ self.now.permitted.permit.word.now }
     {
-        self.permit.value()
+        self.permitted.permit.value()
     }
 
     // One node of the plan: its action is done, its reading waits, or the plan ends.
     pub fn confirm(self) -> Confirmed<'f, 'w>
-        ensures { (p : Procedure) → procedure_of self.entry.loaded.value.file.now ≡ Ok p → (q : Plan) → NodeAt p.place p.plan self.entry.run.place q → ConfirmedAs p.goal p.actions self.entry q result }
+        ensures value { IfLoads self.entry.permitted.loaded.value (λ p. IfNode p self.entry.run.place (λ q. ConfirmedAs p.goal p.actions self.entry q result)) }
+        ensures kept { Keeps self.entry.permitted result }
+        ensures onward { Onward self.entry.run.place result }
     {
-        let Armed {
-            loaded,
-            run,
-            permit,
-        } = self;
+        let Armed { permitted, run } = self;
+        let Permitted { loaded, permit } = permitted;
         let loaded = loaded.take();
         let step = run.step(&loaded);
         let loaded = Kept::put(loaded);
+        let permitted = Permitted { loaded, permit };
         match step {
-            Step::Did { number, run } => Confirmed::Did {
-                number,
-                armed: Armed {
-                    loaded,
-                    run,
-                    permit,
-                },
-            },
-            Step::Asks(pending) => Confirmed::Reads(Reading {
-                loaded,
-                pending,
-                permit,
-            }),
-            Step::Ended => Confirmed::Ended(Over {
-                loaded,
-                word: permit.lower(),
-            }),
+            Step::Did { number, run } => {
+                let armed = Armed { permitted, run };
+                Confirmed::Did { number, armed }
+            }
+            Step::Asks(pending) => Confirmed::Reads(Reading { permitted, pending }),
+            Step::Ended => Confirmed::Ended(permitted.end()),
             Step::Failed { place: _, cause: _ } => unreachable(),
         }
     }
 
     // The run is given up, which ends it.
     pub fn give_up(self) -> Over<'f, 'w>
-        ensures { GivenBack self.entry.loaded self.entry.permit result }
+        ensures { GivenBack self.entry.permitted result }
     {
-        let Armed {
-            loaded,
-            run: _,
-            permit,
-        } = self;
-        let word = permit.lower();
-        Over { loaded, word }
+        let Armed { permitted, run: _ } = self;
+        permitted.end()
     }
 }

@@ -1,10 +1,11 @@
 // How a reading is settled.
-ghost use Rattle.std.specs.Prelude.{◌≡◌};
+ghost use Rattle.std.specs.Prelude.{◌≡◌, ◌<◌, IfOk};
 ghost use Rattle.panel.specs.Confirming.{SettledAs, GivenBack};
 
 use super::Reading;
-use crate::answers::{Denied, Over, Settled};
+use crate::answers::{Denied, Over};
 use crate::armed::Armed;
+use crate::permitted::Permitted;
 use fluents::literals::Fluent;
 use kept::Kept;
 
@@ -31,26 +32,20 @@ impl<'f, 'w> Reading<'f, 'w> {
     }
 
     // The value is learned, and the run goes on in its branch; or no world has it, and the run ends.
-    pub fn settle(self, value: bool) -> Settled<'f, 'w>
-        ensures { SettledAs self.entry value result }
+    pub fn settle(self, value: bool) -> Result<Armed<'f, 'w>, Denied<'f, 'w>>
+        ensures value { SettledAs self.entry value result }
+        ensures onward { IfOk result (λ armed. self.entry.pending.place < armed.run.place) }
     {
-        let Reading {
-            loaded,
-            pending,
-            permit,
-        } = self;
+        let Reading { permitted, pending } = self;
+        let Permitted { loaded, permit } = permitted;
         let loaded = loaded.take();
         let settled = pending.settle(&loaded, value);
         let loaded = Kept::put(loaded);
+        let permitted = Permitted { loaded, permit };
         match settled {
-            Ok(run) => Settled::Goes(Armed {
-                loaded,
-                run,
-                permit,
-            }),
-            Err(fault) => Settled::Refused(Denied {
-                loaded,
-                word: permit.lower(),
+            Ok(run) => Ok(Armed { permitted, run }),
+            Err(fault) => Err(Denied {
+                over: permitted.end(),
                 fault,
             }),
         }
@@ -58,14 +53,12 @@ impl<'f, 'w> Reading<'f, 'w> {
 
     // The reading is withdrawn, and the run ends.
     pub fn withdraw(self) -> Over<'f, 'w>
-        ensures { GivenBack self.entry.loaded self.entry.permit result }
+        ensures { GivenBack self.entry.permitted result }
     {
         let Reading {
-            loaded,
+            permitted,
             pending: _,
-            permit,
         } = self;
-        let word = permit.lower();
-        Over { loaded, word }
+        permitted.end()
     }
 }

@@ -2,8 +2,9 @@
 ghost use Rattle.std.specs.Prelude.{◌≡◌, ℕ, ◌<◌, ◌≤◌, List, ◌++◌, length, drop, Ok, Err, MatchOption, MatchResult, slice_index_or};
 ghost use Rattle.plans.specs.Trees.{Plan, encode, NodeAt};
 ghost use Rattle.procedure.specs.Acts.{row_of, act_seen};
-ghost use Rattle.procedure.specs.Procedures.{Act, Procedure, procedure_of};
-ghost use Rattle.procedure.specs.Starts.{Gives};
+ghost use Rattle.procedure.specs.Procedures.{Act, procedure_of};
+ghost use Rattle.procedure.specs.Starts.{OpensAs};
+ghost use Rattle.procedure.specs.Asked.{IfLoads};
 
 use super::Loaded;
 use crate::acts::{action_frame, action_of};
@@ -12,7 +13,6 @@ use crate::starts::Start;
 use fluents::faults::Fault;
 use frames::frame::Payload;
 use frames::selected::Selected;
-use kept::Kept;
 use knowledge::actions::Action;
 use knowledge::states::PartialState;
 use knowledge::worlds::WorldList;
@@ -34,47 +34,44 @@ pub struct Unloaded<'a> {
 impl<'a> Loaded<'a> {
     // Checks the fields and the plan of a selected file, frame by frame. A start that is a list of worlds goes into
     // the lent list, which otherwise stays as it was.
-    pub fn load(
-        selected: Selected<'a>,
-        list: &mut WorldList,
-    ) -> Result<Kept<Opened<'a>>, Kept<Unloaded<'a>>>
-        ensures { MatchResult result (λ k. (k.value.loaded.file ≡ selected.entry.file) × ((p : Procedure) × (procedure_of selected.entry.file.now ≡ Ok p) × Gives k.value.start list.old list.new p.start)) (λ k. (procedure_of selected.entry.file.now ≡ Err k.value.fault) × (k.value.selected ≡ selected.entry) × (list.new ≡ list.old)) }
+    pub fn load(selected: Selected<'a>, list: &mut WorldList) -> Result<Opened<'a>, Unloaded<'a>>
+        ensures { MatchResult result (λ o. (o.loaded.file ≡ selected.entry.file) × OpensAs selected.entry.file.now o.start list.old list.new) (λ u. (procedure_of selected.entry.file.now ≡ Err u.fault) × (u.selected ≡ selected.entry) × (list.new ≡ list.old)) }
     {
         match contents_of(&selected, list) {
             Ok(found) => {
                 let loaded = Loaded {
                     file: selected.file(),
-                    n: found.n,
-                    goal: found.goal,
+                    n: found.header.n,
+                    goal: found.header.goal,
                     actions: selected.actions(),
                     plan: selected.plan() + 4,
                     len: found.len,
                 };
-                Ok(Kept::put(Opened {
+                Ok(Opened {
                     loaded,
                     start: found.start,
-                }))
+                })
             }
-            Err(fault) => Err(Kept::put(Unloaded { selected, fault })),
+            Err(fault) => Err(Unloaded { selected, fault }),
         }
     }
 
     // The number of fluents.
     pub fn n(&self) -> u8
-        ensures { (p : Procedure) → procedure_of self.now.file.now ≡ Ok p → result ≡ p.n }
+        ensures { IfLoads self.now (λ p. result ≡ p.n) }
     {
         self.n
     }
 
     pub fn goal(&self) -> PartialState
-        ensures { (p : Procedure) → procedure_of self.now.file.now ≡ Ok p → row_of result ≡ p.goal }
+        ensures { IfLoads self.now (λ p. row_of result ≡ p.goal) }
     {
         self.goal
     }
 
     // The number of actions.
     pub fn actions(&self) -> usize
-        ensures { (p : Procedure) → procedure_of self.now.file.now ≡ Ok p → result ≡ length p.actions }
+        ensures { IfLoads self.now (λ p. result ≡ length p.actions) }
     {
         self.actions
     }
@@ -82,8 +79,8 @@ impl<'a> Loaded<'a> {
     // The bytes of the plan as a part of the file, and the place of the first. Every node of the plan stands in the
     // file at its place.
     pub fn plan(&self) -> Payload<'a>
-        ensures nodes { (p : Procedure) → procedure_of self.now.file.now ≡ Ok p → (j : ℕ) (q : Plan) → NodeAt p.place p.plan j q → (rest : List ℕ) × (drop j self.now.file.now ≡ encode q ++ rest) }
-        ensures value { (p : Procedure) → procedure_of self.now.file.now ≡ Ok p → (result.bytes.now ≡ encode p.plan) × (result.place ≡ p.place) }
+        ensures nodes { IfLoads self.now (λ p. (j : ℕ) (q : Plan) → NodeAt p.place p.plan j q → (rest : List ℕ) × (drop j self.now.file.now ≡ encode q ++ rest)) }
+        ensures value { IfLoads self.now (λ p. (result.bytes.now ≡ encode p.plan) × (result.place ≡ p.place)) }
     {
         Payload {
             bytes: &self.file[self.plan..self.plan + self.len],
@@ -93,7 +90,7 @@ impl<'a> Loaded<'a> {
 
     // The action of this number, or none exactly where the procedure has no such action.
     pub fn action(&self, number: usize) -> Option<Action>
-        ensures { (p : Procedure) → procedure_of self.now.file.now ≡ Ok p → MatchOption result (length p.actions ≤ number) (λ a. (number < length p.actions) × ((d : Act) → slice_index_or p.actions number d ≡ act_seen a)) }
+        ensures { IfLoads self.now (λ p. MatchOption result (length p.actions ≤ number) (λ a. (number < length p.actions) × ((d : Act) → slice_index_or p.actions number d ≡ act_seen a))) }
     {
         if number >= self.actions {
             return None;
@@ -101,4 +98,12 @@ impl<'a> Loaded<'a> {
         let frame = action_frame(self.file, number)?;
         action_of(frame, self.n)
     }
+}
+
+// Select and Load in one: the procedure of a file, and its start. A refused file leaves the lent list as it was.
+pub fn open<'a>(file: &'a [u8], list: &mut WorldList) -> Result<Opened<'a>, Fault>
+    ensures { MatchResult result (λ o. (o.loaded.file ≡ file.entry) × OpensAs file.now o.start list.old list.new) (λ e. (procedure_of file.now ≡ Err e) × (list.new ≡ list.old)) }
+{
+    let selected = Selected::select(file)?;
+    Loaded::load(selected, list).map_err(|unloaded| unloaded.fault)
 }

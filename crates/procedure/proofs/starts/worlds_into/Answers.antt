@@ -1,13 +1,20 @@
-use Rattle.std.proofs.Common.{◌≡◌, ℕ, ◌-◌, take, sym, refl, ap, ◌∙◌, subst, arith}
+use Rattle.std.proofs.Common.{◌≡◌, sym, refl, ap, ◌∙◌, subst}
 use Rattle.knowledge.specs.Worlds.{list_of, SameWorlds}
 use Rattle.procedure.specs.Fields.{are_inside, worlds_in}
+use Rattle.procedure.proofs.Options.{was_ok}
+use Rattle.procedure.proofs.Worlds.{all_inside}
 use Rattle.procedure.proofs.starts.worlds_into.Goals as goal
+
+pub returns-then-not-are_inside : goal.returns-then-not-are_inside
+returns-then-not-are_inside c =
+    let lent : c.deref.result.now ≡ worlds_in c.args.bytes.now = c.deref.ensures.0 ∙ c.worlds_in-worlds.ensures.items in
+    (ap (are_inside c.args.n) (sym lent) ∙ sym (all_inside c.args.n c.deref.result.now) ∙ sym c.are_inside.ensures ∙ c.if-not-are_inside.true, refl)
 
 pub returns : goal.returns
 returns c =
-    let found = c.worlds_in-found.result in
-    let filled : take (found.count - 0) found.worlds ≡ worlds_in c.args.bytes.now =
-    ap (λ (n : ℕ). take n found.worlds) (omega arith) ∙ c.worlds_in-found.ensures.1 in (
-      ap (are_inside c.args.n) (sym filled) ∙ sym c.are_inside.ensures ∙ c.if-not-are_inside.false,
-      (worlds_in c.args.bytes.now, refl, subst (SameWorlds (list_of c.in-Ok.made)) filled c.in-Ok.ensures.1),
+    let lent : c.deref.result.now ≡ worlds_in c.args.bytes.now = c.deref.ensures.0 ∙ c.worlds_in-worlds.ensures.items in
+    let again : c.deref-2.result.now ≡ worlds_in c.args.bytes.now = c.deref-2.ensures.0 ∙ c.worlds_in-worlds.ensures.items in
+    let made = was_ok _ _ c.new.result c.in_ok-list.field-0 c.new.ensures (sym c.ok.ensures.value ∙ c.in_ok-list.was) in (
+      ap (are_inside c.args.n) (sym lent) ∙ sym (all_inside c.args.n c.deref.result.now) ∙ sym c.are_inside.ensures ∙ c.if-not-are_inside.false,
+      (worlds_in c.args.bytes.now, refl, subst (SameWorlds (list_of c.in_ok-list.field-0)) again made.1),
     )

@@ -1,5 +1,5 @@
-use Rattle.std.proofs.Common.{◌≡◌, ℕ, ◌-◌, true, ◌++◌, length, take, drop, IfOk, Ok, Err, Result, sym, refl, ap, ◌∙◌, subst, arith}
-use Rattle.std.proofs.lemmas.List.{take_at, length-take-le}
+use Rattle.std.proofs.Common.{◌≡◌, ℕ, true, ◌++◌, length, take, drop, IfOk, Ok, Err, Result, sym, refl, ap, ◌∙◌, subst, arith}
+use Rattle.std.proofs.lemmas.List.{take_at}
 use Rattle.std.proofs.lemmas.Slice.{drop-append-drop}
 use Rattle.std.proofs.lemmas.Result.{err_from_is_err_and}
 use Rattle.fluents.specs.declared.faults.Fault.{Fault}
@@ -39,19 +39,18 @@ returns-in_err-rooted c =
 pub returns : goal.returns
 returns c =
     let rs = c.as_slice-rows.result.now in
-    let l = c.in_ok-rooted.rooted.listed in
     let written = c.copy_from_slice.ensures.after in
     let file = c.args.loaded.now.file.now in
-    let listed : (p : Procedure) → procedure_of file ≡ Ok p → rows_of p.goal (tree_of p) ≡ Ok (take (length rs) (c.copy_from_slice.new.self ++ drop (length rs - 0) c.args.out.now)) = λ p is.
+    let listed : (p : Procedure) → procedure_of file ≡ Ok p → rows_of p.goal (tree_of p) ≡ Ok (take (length rs) (c.copy_from_slice.new.self ++ drop (length rs) c.args.out.now)) = λ p is.
     let place = (c.plan.ensures.value p is).1 in
     let got = c.in_ok-rooted.ensures p is p.plan (root_node p c.plan.result.place place) in
     sym (ap (λ (i : ℕ). rows_at p i p.plan) place) ∙ got.0
-    ∙ ap Ok (sym c.as_slice-rows.ensures ∙ sym (take_at c.copy_from_slice.new.self _ (length rs) (ap length written) ∙ written)) in
+    ∙ ap Ok (sym c.as_slice-rows.ensures.value ∙ sym (take_at c.copy_from_slice.new.self _ (length rs) (ap length written) ∙ written)) in
     record {
       value = λ p is. (
         listed p is,
-        omega (arith, ap length c.as_slice-rows.ensures, length-take-le l.count l.rows (omega (arith, l.few, l.long)), l.few),
-        drop-append-drop (length rs - 0) c.args.out.now c.copy_from_slice.new.self (length rs) (omega arith) (omega (arith, ap length written)),
+        c.as_slice-rows.ensures.fits,
+        drop-append-drop (length rs) c.args.out.now c.copy_from_slice.new.self (length rs) (omega arith) (omega (arith, ap length written)),
       );
       list = λ p is. rows_list p.goal (tree_of p) _ (goal_state file p is) (tree_proper file p is) (listed p is);
       safe = λ p is K. covered_safe p.goal (tree_of p) _ (listed p is) (λ w. K w ≡ true);

@@ -3,4 +3,7 @@ use Rattle.meaning.specs.Rows.{keep, allows}
 use Rattle.regression.proofs.reading.agreeing.Given as goal
 
 abbrev pub invariant-loop-row : goal.invariant-loop-row
-invariant-loop-row l = (length l.rows ≡ 16) × (l.count ≤ l.row-index) × (take l.count l.rows ≡ keep (allows l.fluent.index l.value) (take l.row-index l.given))
+invariant-loop-row l = record {
+  rows : l.rows ≡ keep (allows l.literal.fluent.index l.literal.value) (take l.row-index l.given);
+  few : length l.rows ≤ l.row-index;
+}

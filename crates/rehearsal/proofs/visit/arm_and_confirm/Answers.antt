@@ -1,7 +1,7 @@
-use Rattle.rehearsal.proofs.Leading.{given_back}
+use Rattle.panel.proofs.Keeping.{as_before}
 use Rattle.rehearsal.proofs.visit.arm_and_confirm.Goals as goal
 
 pub returns-in-Ok : goal.returns-in-Ok
 returns-in-Ok c =
-    let armed = c.in-Ok.ensures.value in
-    given_back c.args.word c.confirm_all-word.result.word c.in-Ok.armed.permit armed.held armed.set armed.earlier c.confirm_all-word.ensures
+    let back = as_before _ c.args.start c.args.word c.in-Ok.armed _ c.in-Ok.ensures.value c.confirm_all-word.ensures in
+    record { held = back.held; value = back.kept }

@@ -1,10 +1,9 @@
-use Rattle.std.proofs.Common.{◌-◌}
-use Rattle.rehearsal.specs.Permits.{SamePermit}
-use Rattle.rehearsal.proofs.Leading.{size}
+use Rattle.std.proofs.Common.{◌-◌, length}
+use Rattle.panel.specs.Confirming.{Stays}
 use Rattle.rehearsal.proofs.visit.confirm_all.Given as goal
 
 abbrev pub invariant-loop-number : goal.invariant-loop-number
-invariant-loop-number l = SamePermit l.initial.armed.permit l.armed.permit
+invariant-loop-number l = Stays l.initial.armed.permitted l.armed.permitted
 
 abbrev pub decreases-loop-number : goal.decreases-loop-number
-decreases-loop-number l = size l.armed - l.armed.run.place
+decreases-loop-number l = length l.armed.permitted.loaded.value.file.now - l.armed.run.place

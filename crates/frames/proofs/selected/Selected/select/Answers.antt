@@ -1,4 +1,4 @@
-use Rattle.std.proofs.Common.{◌≡◌, ℕ, ◌<◌, ◌≤◌, true, false, List, length, get_or, is_ok, Ok, Err, sym, ap, ◌∙◌, subst, add-zero, arith, w8, Fits}
+use Rattle.std.proofs.Common.{◌≡◌, ℕ, ◌<◌, true, false, List, length, get_or, is_ok, Err, sym, refl, ap, ◌∙◌, arith, w8, Fits}
 use mir.Facts.{Fits-lt-pow}
 use Rattle.std.proofs.lemmas.Result.{err_from_is_err_and}
 use Rattle.fluents.specs.Refusals.{fault_at}
@@ -9,7 +9,7 @@ use Rattle.frames.specs.Frames.{after_at, frame_at}
 use Rattle.frames.specs.Spoiled.{SpoiledRefused}
 use Rattle.frames.specs.Strings.{Composed}
 use Rattle.frames.specs.declared.frame.Due.TheVariants.{Header, Start}
-use Rattle.frames.proofs.Reading.{end_at, frames_refused, frames_outline, frames_err, start_refused, start_past, start_last, laid_from, laid_is}
+use Rattle.frames.proofs.Reading.{end_at, outline_read, frames_refused, frames_err, start_refused, start_past, laid_from}
 use Rattle.frames.proofs.Spoiled.{spoiled_refused}
 use Rattle.frames.proofs.Strings.{outline_ok, strings}
 use Rattle.frames.proofs.selected.Selected.select.Goals as goal
@@ -69,33 +69,27 @@ returns-then-past-file c =
     (c.in_ok-body.ensures.0
     ∙ ap (outline_from body.actions) (start_past s (frame_at s body.plan) body.end last.0 more)
     ∙ ap (λ (n : ℕ). Err (fault_at UnexpectedKind n)) (sym past)) in
-    refused s fault c.type_inv.file value
+    rw c.at.ensures (refused s fault c.type_inv.file value)
 
-pub invariant_of-put : goal.invariant_of-put
-invariant_of-put c =
+pub invariant_of-result : goal.invariant_of-result
+invariant_of-result c =
     let s = c.args.file.now in
-    let read = c.in_ok-header.ensures in
-    let ended : c.end.result ≡ after_at s 0 = end_at s 0 Header c.in_ok-header.header read.0 read.1 (omega arith) c.end.ensures in
     let body = c.in_ok-body.body in
-    let last = c.in_ok-last.ensures in
-    let past : c.end-past.result ≡ after_at s body.end = end_at s body.end Start c.in_ok-last.last last.0 last.1 (omega arith) c.end-past.ensures in
-    let done : length s ≤ after_at s body.end = omega (arith, past, c.if-past-file.false) in
-    let lies = outline body.actions body.plan body.end in
     let value =
-    frames_outline s c.end.result (Ok lies) read.0 ended
-    (c.in_ok-body.ensures.0
-    ∙ ap (outline_from body.actions) (start_last s (frame_at s body.plan) body.end last.0 done)
-    ∙ ap (λ (n : ℕ). Ok (outline n body.plan body.end)) (add-zero body.actions)) in
+    outline_read s c.in_ok-header.header c.in_ok-last.last c.end.result c.end-past.result body.actions body.plan body.end
+    c.in_ok-header.ensures.0 c.in_ok-header.ensures.1 c.end.ensures c.in_ok-body.ensures.0 c.in_ok-last.ensures.0 c.in_ok-last.ensures.1 c.end-past.ensures c.if-past-file.false (omega arith) in
     record { laid = laid_from (outline_of (frames_of s)) body.actions body.plan body.end value }
 
 pub returns : goal.returns
 returns c =
     let s = c.args.file.now in
-    let made = c.put.result.value in
-    let lent = ap (λ v. v.file) c.put.ensures in
-    let lies = outline made.actions made.plan made.start in
-    let value : outline_of (frames_of s) ≡ Ok lies =
-    subst (λ f. outline_of (frames_of f.now) ≡ Ok lies) lent
-    (laid_is (outline_of (frames_of made.file.now)) made.actions made.plan made.start made.laid) in
+    let body = c.in_ok-body.body in
+    let value =
+    outline_read s c.in_ok-header.header c.in_ok-last.last c.end.result c.end-past.result body.actions body.plan body.end
+    c.in_ok-header.ensures.0 c.in_ok-header.ensures.1 c.end.ensures c.in_ok-body.ensures.0 c.in_ok-last.ensures.0 c.in_ok-last.ensures.1 c.end-past.ensures c.if-past-file.false (omega arith) in
     let small = below_256 s c.type_inv.file in
-    record { value = (lent, value); strings = strings s true small (sym (outline_ok (frames_of s) lies value)); spoiled = spoiled_refused s small }
+    record {
+      value = (refl, value);
+      strings = strings s true small (sym (outline_ok (frames_of s) (outline body.actions body.plan body.end) value));
+      spoiled = spoiled_refused s small;
+    }

@@ -1,4 +1,4 @@
-use Rattle.std.proofs.Common.{◌≡◌, ℕ, sym, refl, ap, ◌∙◌, subst, arith}
+use Rattle.std.proofs.Common.{sym, ap, ◌∙◌, subst}
 use Rattle.plans.specs.Trees.{NodeAt}
 use Rattle.plans.proofs.Places.{node_root}
 use Rattle.procedure.specs.Procedures.{procedure_of}
@@ -17,12 +17,11 @@ invariant_of-result c =
     let run = c.begin-run.result in
     let there = c.begin-run.ensures.1 p k.is in
     let holds : Follows p.goal (tree_of p) (worlds_in c.args.start) Holds = c.in-Holds.ensures.value p k.is in record {
-      raised = c.raise-permit.ensures.zero;
       ready =
           ∣
           record {
             p = p;
-            is = ap (λ v. procedure_of v.file.now) c.put.ensures ∙ k.is;
+            is = ap (λ v. procedure_of v.file.now) c.put-loaded.ensures ∙ k.is;
             q = p.plan;
             at = subst (λ j. NodeAt p.place p.plan j p.plan) (sym there) (node_root p.plan p.place);
             holds = subst (λ j. Follows p.goal (steps_of p.actions j p.plan) (worlds_in run.knowledge) Holds) (sym there)
@@ -30,15 +29,3 @@ invariant_of-result c =
           }
           ∣₁;
     }
-
-pub returns-in-Fails : goal.returns-in-Fails
-returns-in-Fails c = record {
-  value = record {
-    same = c.put-in-Fails.ensures;
-    given = refl;
-    held = refl;
-    kept = refl;
-    fails = λ p e. (c.in-Fails.ensures.value p e, refl);
-  };
-  covered = λ p e rs rows cov. let z : ◌≡◌ {A = ℕ} 0 1 = cc (c.in-Fails.ensures.covered p e rs rows cov) in absurd (omega arith);
-}

@@ -1,15 +1,10 @@
 use Rattle.std.proofs.Common.{◌≡◌, ℕ, ◌+◌, Bool, true, false, MatchBool, sym, refl, ap, ◌∙◌, subst, inl, inr, arith}
+use Rattle.std.proofs.lemmas.Bool.{MatchBool-at_true, MatchBool-at_false}
 use Rattle.fluents.specs.Sets.{bit}
 use Rattle.plans.specs.Trees.{ask, past, NodeAt}
 use Rattle.plans.proofs.Places.{node_true}
 use Rattle.runs.proofs.Room.{room}
 use Rattle.runs.proofs.pending.Pending.branches.Goals as goal
-
-when_true : (b : Bool) (P Q : Type 0) → b ≡ true → MatchBool b P Q → P
-when_true b P Q e h = subst (λ x. MatchBool x P Q) e h
-
-when_false : (b : Bool) (P Q : Type 0) → b ≡ false → MatchBool b P Q → Q
-when_false b P Q e h = subst (λ x. MatchBool x P Q) e h
 
 half_open : {P Q : Type 0} (b : Bool) → MatchBool b P Q → (Q → ⊥) → P
 half_open true h n = h
@@ -24,8 +19,8 @@ returns-then-halves-2 g c = λ p e a t f node.
     let within = room c.args.loaded.now.file.now p e c.args.self.place (ask a t f) node in
     let first : c.saturating_add-first.result ≡ c.args.self.place + 2 = omega (arith, within) in
     let node-t = subst (λ (j : ℕ). NodeAt p.place p.plan j t) (sym first) (node_true p.plan p.place c.args.self.place a t f node) in (
-      record { there = first; knows = when_true _ _ _ c.if-halves-2.true c.split-halves.ensures.true_half },
-      record { there = c.place_past.ensures p e t node-t ∙ ap (λ (j : ℕ). past j t) first; knows = when_true _ _ _ c.if-halves.true c.split-halves.ensures.false_half },
+      record { there = first; knows = MatchBool-at_true _ _ c.if-halves-2.true c.split-halves.ensures.true_half },
+      record { there = c.place_past.ensures p e t node-t ∙ ap (λ (j : ℕ). past j t) first; knows = MatchBool-at_true _ _ c.if-halves.true c.split-halves.ensures.false_half },
     )
 
 pub returns-else-halves-2 : goal.returns-else-halves-2
@@ -33,9 +28,9 @@ returns-else-halves-2 g c = λ p e a t f node.
     let within = room c.args.loaded.now.file.now p e c.args.self.place (ask a t f) node in
     let first : c.saturating_add-first.result ≡ c.args.self.place + 2 = omega (arith, within) in
     let node-t = subst (λ (j : ℕ). NodeAt p.place p.plan j t) (sym first) (node_true p.plan p.place c.args.self.place a t f node) in
-    let none = (when_false _ _ _ c.if-halves-2.false c.split-halves.ensures.true_half).1 in
+    let none = (MatchBool-at_false _ _ c.if-halves-2.false c.split-halves.ensures.true_half).1 in
     inr (
-      record { there = c.place_past.ensures p e t node-t ∙ ap (λ (j : ℕ). past j t) first; knows = when_true _ _ _ c.if-halves.true c.split-halves.ensures.false_half },
+      record { there = c.place_past.ensures p e t node-t ∙ ap (λ (j : ℕ). past j t) first; knows = MatchBool-at_true _ _ c.if-halves.true c.split-halves.ensures.false_half },
       λ (w, (k, h)). none w k h,
     )
 
@@ -44,7 +39,7 @@ pub returns-else-halves : goal.returns-else-halves
 returns-else-halves g c = λ p e a t f node.
     let within = room c.args.loaded.now.file.now p e c.args.self.place (ask a t f) node in
     let first : c.saturating_add-first.result ≡ c.args.self.place + 2 = omega (arith, within) in
-    let none = (when_false _ _ _ c.if-halves.false c.split-halves.ensures.false_half).1 in
+    let none = (MatchBool-at_false _ _ c.if-halves.false c.split-halves.ensures.false_half).1 in
     let one = g.met.K.Knowledge.some c.args.self.knowledge in
     inl (
       record {

@@ -5,22 +5,13 @@ use Rattle.plans.specs.Trees.{act, NodeAt}
 use Rattle.procedure.specs.Acts.{row_of}
 use Rattle.meaning.specs.Sets.{Covers}
 use Rattle.runs.specs.Stepping.{Stepped}
-use Rattle.meaning.specs.declared.answers.Cause.TheVariants.{UnmetConditions, GoalUnknown}
+use Rattle.meaning.specs.declared.answers.Cause.TheVariants.{UnmetConditions}
 use Rattle.runs.specs.declared.pending.Pending.{Pending}
 use Rattle.runs.specs.declared.run.Run.{Run}
 use Rattle.runs.specs.declared.run.Step.TheVariants.{Did, Asks, Failed}
-use Rattle.runs.proofs.Nodes.{shown_end, shown_doing, shown_reading}
+use Rattle.runs.proofs.Nodes.{shown_doing, shown_reading}
 use Rattle.runs.proofs.Room.{room}
 use Rattle.runs.proofs.run.Run.step.Goals as goal
-
-pub returns-else-knows_all : goal.returns-else-knows_all
-returns-else-knows_all g c = λ p e q node.
-    let worlds = g.K.Knowledge.worlds in
-    let i = c.args.self.place in
-    let k = c.args.self.knowledge in
-    let goal : row_of c.goal.result ≡ p.goal = c.goal.ensures p e in
-    shown_end p.actions (λ r. Stepped worlds p.goal p.actions i k r (Failed i GoalUnknown)) q (c.in-End.ensures p e q node)
-    (inr ((λ cov. both_ways _ c.if-knows_all.false (c.knows_all.ensures.1 (subst (λ (r : Row). Covers r (worlds k)) (sym goal) cov))), refl))
 
 pub returns-then-knows_all-2 : goal.returns-then-knows_all-2
 returns-then-knows_all-2 g c = λ p e q node.

@@ -10,7 +10,7 @@ returns-then-self-alone-ne0 c =
     let s = c.args.self in
     let i = c.args.literal.fluent.index in
     let has = not_apart_has s.falses i (λ h. c.if-self-alone-ne0.true (ap (bit_and s.falses) c.alone-alone.ensures ∙ h)) in
-    record { fields = tt; meaning = (c.contradiction.ensures, λ w x holds. true_not_false (sym (holds ∙ c.if-literal.true) ∙ apart_members s.falses w x.2 i has)) }
+    record { fields = tt; meaning = (c.into.ensures, λ w x holds. true_not_false (sym (holds ∙ c.if-literal.true) ∙ apart_members s.falses w x.2 i has)) }
 
 pub invariant_of-result : goal.invariant_of-result
 invariant_of-result c =
@@ -47,7 +47,7 @@ returns-then-self-alone-ne0-2 c =
     let s = c.args.self in
     let i = c.args.literal.fluent.index in
     let has = not_apart_has s.trues i (λ h. c.if-self-alone-ne0-2.true (ap (bit_and s.trues) c.alone-alone.ensures ∙ h)) in
-    record { fields = tt; meaning = (c.contradiction-then-self-alone-ne0-2.ensures, λ w x holds. true_not_false (sym (within_members s.trues w x.1 i has) ∙ holds ∙ c.if-literal.false)) }
+    record { fields = tt; meaning = (c.into-then-self-alone-ne0-2.ensures, λ w x holds. true_not_false (sym (within_members s.trues w x.1 i has) ∙ holds ∙ c.if-literal.false)) }
 
 pub invariant_of-result-else-literal : goal.invariant_of-result-else-literal
 invariant_of-result-else-literal c =

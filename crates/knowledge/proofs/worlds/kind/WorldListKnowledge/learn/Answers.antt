@@ -1,31 +1,41 @@
-use Rattle.std.proofs.Common.{◌≡◌, ℕ, ◌-◌, ◌≤◌, length, take, refl, ap, ◌∙◌, subst, arith}
-use Rattle.std.proofs.lemmas.List.{length-take-le}
-use Rattle.knowledge.specs.Meaning.{HoldsIn}
-use Rattle.knowledge.specs.Worlds.{list_of, SameWorlds}
-use Rattle.knowledge.proofs.Choosing.{Chosen}
+use Rattle.std.proofs.Common.{rules, ◌≡◌, ℕ, Bool, Result, Ok, Err, filter, take, sym, ap, ◌∙◌, subst, arith}
+use mathlib.Core.Bool.{beq}
+use Rattle.std.specs.Result.{MatchResult, IsErrAnd}
+use Rattle.std.proofs.lemmas.Result.{MatchResult-weaker, err_from_is_err_and}
+use Rattle.arrayvec.proofs.ArrayVecLemmas.{filter-from_retain}
+use Rattle.fluents.specs.Sets.{bit}
+use Rattle.fluents.specs.Refusals.{fault_at}
+use Rattle.fluents.specs.declared.faults.Fault.{Fault}
+use Rattle.fluents.specs.declared.faults.Refusal.TheVariants.{Contradiction}
+use Rattle.knowledge.specs.declared.worlds.WorldList.{WorldList}
+use Rattle.knowledge.specs.Meaning.{HoldsIn, Learned, Same}
+use Rattle.knowledge.specs.Listed.{Lists}
+use Rattle.knowledge.specs.Worlds.{list_of}
+use Rattle.knowledge.proofs.Choosing.{Chosen, chosen_filter, beq_true, beq_false}
 use Rattle.knowledge.proofs.worlds.kind.WorldListKnowledge.learn.Goals as goal
 
-pub returns-in-Ok : goal.returns-in-Ok
-returns-in-Ok c = λ w.
-    let front = c.with_literal-front.result in
-    let all : take (front.count - 0) front.worlds ≡ take front.count front.worlds = ap (λ (n : ℕ). take n front.worlds) (omega arith) in
-    let same = subst (SameWorlds (list_of c.in-Ok.list)) all c.in-Ok.ensures.1 in
-    let chosen = subst (λ xs. Chosen (HoldsIn c.args.literal) xs (take front.count front.worlds)) c.as_slice.ensures c.with_literal-front.ensures.2 in (
-      (λ h. (chosen w).0 (same.0 w h)),
-      (λ h. same.1 w ((chosen w).1 h.0 h.1)),
-    )
+-- a refusal of the new list becomes the one of a contradiction
+answered : (Yes : WorldList → Type 0) (No : Type 0) (n r : Result WorldList Fault) → MatchResult n Yes (λ _. No)
+    → MatchResult n (λ l. r ≡ Ok l) (λ _. IsErrAnd r (λ e. e ≡ fault_at Contradiction 0)) → MatchResult r Yes (λ e. (e ≡ fault_at Contradiction 0) × No)
+answered Yes No (Ok l) r a b = subst (λ q. MatchResult q Yes (λ e. (e ≡ fault_at Contradiction 0) × No)) (sym b) a
+answered Yes No (Err x) r a b =
+    let refused = err_from_is_err_and r b in
+    subst (λ q. MatchResult q Yes (λ e. (e ≡ fault_at Contradiction 0) × No)) (sym refused.1) (refused.2, a)
 
-pub returns-in-Err : goal.returns-in-Err
-returns-in-Err c =
-    let front = c.with_literal-front.result in
+pub returns : goal.returns
+returns c =
     let self = c.args.self in
-    let short : length (list_of self) ≡ self.len = length-take-le self.len self.worlds (omega (arith, self.few, self.long)) in
-    let few : front.count ≤ 64 = omega (arith, c.with_literal-front.ensures.1, ap length c.as_slice.ensures, short, self.few) in
-    let front_long : length (take front.count front.worlds) ≡ front.count = length-take-le front.count front.worlds (omega (arith, few, c.with_literal-front.ensures.0)) in
-    let part-long : length (take (front.count - 0) front.worlds) ≡ front.count = ap (λ (n : ℕ). length (take n front.worlds)) (omega arith) ∙ front_long in
-    let chosen = subst (λ xs. Chosen (HoldsIn c.args.literal) xs (take front.count front.worlds)) c.as_slice.ensures c.with_literal-front.ensures.2 in (
-      refl,
-      λ w h p.
-          let there = (chosen w).1 h p in
-          c.in-Err.ensures.0 (omega (arith, part-long, front_long, there.1), omega (arith, part-long, few)),
-    )
+    let literal = c.args.literal in
+    let ws = list_of self in
+    let kept = c.as_slice.result.now in
+    let test : ℕ → Bool = λ w. beq (bit w literal.fluent.index) literal.value in
+    let all : kept ≡ filter test ws =
+    c.as_slice.ensures.value ∙ filter-from_retain _ test _ (λ x b f' y called. search rules) _ _ c.retain.ensures.filtered
+    ∙ ap (filter test) (c.truncate.ensures.items ∙ ap (take self.len) c.from-worlds.ensures.0) in
+    let chosen : Chosen (HoldsIn literal) ws kept =
+    subst (Chosen (HoldsIn literal) ws) (sym all) (chosen_filter (HoldsIn literal) test (λ w. beq_true _ _) (λ w. beq_false _ _) ws) in
+    answered (λ l. Same (Lists l) (Learned literal (Lists self))) ((w : ℕ) → Lists self w → HoldsIn literal w → ⊥) c.new.result c.map_err.result
+    (MatchResult-weaker c.new.result c.new.ensures
+    (λ l made w. ((λ h. (chosen w).0 (made.1.0 w h)), (λ h. made.1.1 w ((chosen w).1 h.0 h.1))))
+    (λ e not w h p. let there = (chosen w).1 h p in not.0 (omega (arith, there.1), c.as_slice.ensures.fits)))
+    (search rules)
