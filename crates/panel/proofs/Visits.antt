@@ -1,7 +1,6 @@
 -- A run that is confirmed along readings is the walk. Assumes nothing.
 use Rattle.std.specs.Borrow.{MutBor}
-use Rattle.std.proofs.Common.{◌≡◌, ℕ, ◌+◌, ◌-◌, Bool, List, ◌∷◌, length, drop, Ok, Err, sym, refl, ap, ◌∙◌, subst, inl, arith, add-one}
-use Rattle.std.proofs.lemmas.List.{drop_more}
+use Rattle.std.proofs.Common.{◌≡◌, ℕ, ◌+◌, ◌-◌, Bool, List, ◌∷◌, length, Ok, Err, sym, refl, ap, ◌∙◌, subst, inl, arith}
 use Rattle.knowledge.specs.declared.states.Row.{Row}
 use Rattle.plans.specs.Trees.{Plan, finish, act, ask, gap, NodeAt}
 use Rattle.procedure.specs.Procedures.{Act, Procedure, procedure_of}
@@ -19,7 +18,7 @@ use Rattle.runs.specs.Stepping.{Stepped}
 use Rattle.runs.specs.declared.run.Run.{Run}
 use Rattle.runs.specs.declared.walk.Walked.{Walked}
 use Rattle.runs.specs.declared.run.Step.TheVariants.{Did as DidStep, Asks, Ended as EndedStep}
-use Rattle.runs.proofs.Along.{Along, along_begun, along_did, along_ended, waiting, waiting_node, along_used_up, along_refused, along_settled}
+use Rattle.runs.proofs.Along.{Left, left_did, left_ended, left_asking, left_node, left_used_up, left_refused, left_settled}
 use Rattle.panel.specs.Arming.{ArmedAs}
 use Rattle.panel.specs.Cases.{worlds_in}
 use Rattle.panel.specs.Confirming.{ConfirmedAs, SettledAs, GoneOn, WaitsFor}
@@ -37,18 +36,18 @@ use Rattle.panel.specs.declared.reading.Reading.{Reading}
 
 module _ (goal : Row) (acts : List Act) (a : Armed) where
   did_steps : (q : Plan) (n : ℕ) (b : Armed) → ConfirmedAs goal acts a q (Did n b) → Stepped worlds_in goal acts a.run.place a.run.knowledge q (DidStep n b.run)
-  did_steps finish n b (cov, (o, e, back)) = let z : ◌≡◌ {A = ℕ} 0 1 = cc e in absurd (omega arith)
+  did_steps finish n b (cov, (o, e, back)) = absurd (cc e)
   did_steps (act m q) n b (c, add, del, found, cov, (b', e, on)) =
       let one : n ≡ m = cc e in
       let same : b ≡ b' = cc e in
       let gone : GoneOn a add del b = subst (GoneOn a add del) (sym same) on in
       (c, add, del, found, inl (cov, (b.run, ap (λ (k : ℕ). DidStep k b.run) one, gone.place, gone.worlds)))
-  did_steps (ask m t e') n b (c, f, found, cov, (x, e, waits)) = let z : ◌≡◌ {A = ℕ} 0 1 = cc e in absurd (omega arith)
+  did_steps (ask m t e') n b (c, f, found, cov, (x, e, waits)) = absurd (cc e)
   did_steps gap n b h = absurd h
 
   reads_steps : (q : Plan) (x : Reading) → ConfirmedAs goal acts a q (Reads x) → Stepped worlds_in goal acts a.run.place a.run.knowledge q (Asks x.pending)
-  reads_steps finish x (cov, (o, e, back)) = let z : ◌≡◌ {A = ℕ} 0 1 = cc e in absurd (omega arith)
-  reads_steps (act m q) x (c, add, del, found, cov, (b, e, on)) = let z : ◌≡◌ {A = ℕ} 0 1 = cc e in absurd (omega arith)
+  reads_steps finish x (cov, (o, e, back)) = absurd (cc e)
+  reads_steps (act m q) x (c, add, del, found, cov, (b, e, on)) = absurd (cc e)
   reads_steps (ask m t e') x (c, f, found, cov, (y, e, waits)) =
       let same : x ≡ y = cc e in
       let w : WaitsFor a m f x = subst (WaitsFor a m f) (sym same) waits in
@@ -57,99 +56,63 @@ module _ (goal : Row) (acts : List Act) (a : Armed) where
 
   ended_steps : (q : Plan) (o : Over) → ConfirmedAs goal acts a q (Ended o) → Stepped worlds_in goal acts a.run.place a.run.knowledge q EndedStep
   ended_steps finish o (cov, (o', e, back)) = inl (cov, refl)
-  ended_steps (act m q) o (c, add, del, found, cov, (b, e, on)) = let z : ◌≡◌ {A = ℕ} 0 1 = cc e in absurd (omega arith)
-  ended_steps (ask m t e') o (c, f, found, cov, (x, e, waits)) = let z : ◌≡◌ {A = ℕ} 0 1 = cc e in absurd (omega arith)
+  ended_steps (act m q) o (c, add, del, found, cov, (b, e, on)) = absurd (cc e)
+  ended_steps (ask m t e') o (c, f, found, cov, (x, e, waits)) = absurd (cc e)
   ended_steps gap o h = absurd h
 
 -- what Confirm promises of a run and its answer
 abbrev pub Confirms : Armed → Confirmed → Type 0
 Confirms a r = (p : Procedure) → procedure_of a.permitted.loaded.value.file.now ≡ Ok p → (q : Plan) → NodeAt p.place p.plan a.run.place q → ConfirmedAs p.goal p.actions a q r
 
--- ---- from the first readings on
+-- ---- the readings that are left
 
--- The walk along the readings has come to the run, and these are left.
-pub record WalkedTo (file : List ℕ) (start : Known) (readings left : List Bool) (run : Run Known) : Type 0 where
-  pub used : ℕ
-  pub taken : drop used readings ≡ left
-  pub count : used + length left ≡ length readings
-  pub along : Along worlds_in file start readings run used
-
--- how many are used, as the code has it
+-- how many readings were taken where these are left
 abbrev pub used_of : List Bool → List Bool → ℕ
 used_of readings left = length readings - length left
 
 module _ (file : List ℕ) (start : Known) (readings : List Bool) where
-  pub walked_begun : (p : Procedure) → procedure_of file ≡ Ok p → (run : Run Known) → run.place ≡ p.place → run.knowledge ≡ start → WalkedTo file start readings readings run
-  walked_begun p is run there knows = record {
-    used = 0;
-    taken = refl;
-    count = omega arith;
-    along = along_begun worlds_in file start readings p is run there knows;
-  }
-
-  -- the walk in the words of the caller's procedure
-  told : (run : Run Known) (used n m : ℕ) (w : Along worlds_in file start readings run used) (s : Stop) → n ≡ m → Walks w.p.goal (tree_of w.p) (worlds_in start) readings n s
+  -- the walk for the caller's procedure
+  told : (run : Run Known) (left : List Bool) (w : Left worlds_in file start readings run left) (m : ℕ) (s : Stop) → Walks w.p.goal (tree_of w.p) (worlds_in start) readings m s
       → (p : Procedure) → procedure_of file ≡ Ok p → Walks p.goal (tree_of p) (worlds_in start) readings m s
-  told run used n m w s count walk p e =
-      subst (λ (k : ℕ). Walks p.goal (tree_of p) (worlds_in start) readings k s) count
-      (subst (λ x. Walks x.goal (tree_of x) (worlds_in start) readings n s) (ok_same (sym w.is ∙ e)) walk)
+  told run left w m s walk p e = subst (λ x. Walks x.goal (tree_of x) (worlds_in start) readings m s) (ok_same (sym w.is ∙ e)) walk
 
-  module _ (left : List Bool) (a : Armed) (same : a.permitted.loaded.value.file.now ≡ file) (w : WalkedTo file start readings left a.run) where
-    here : procedure_of a.permitted.loaded.value.file.now ≡ Ok w.along.p
-    here = ap procedure_of same ∙ w.along.is
+  module _ (left : List Bool) (a : Armed) (same : a.permitted.loaded.value.file.now ≡ file) (w : Left worlds_in file start readings a.run left) where
+    here : procedure_of a.permitted.loaded.value.file.now ≡ Ok w.p
+    here = ap procedure_of same ∙ w.is
 
-    pub walked_did : (n : ℕ) (b : Armed) → Confirms a (Did n b) → WalkedTo file start readings left b.run
-    walked_did n b confirms = record {
-      used = w.used;
-      taken = w.taken;
-      count = w.count;
-      along = along_did worlds_in file start readings a.run w.used w.along n b.run
-          (did_steps w.along.p.goal w.along.p.actions a w.along.q n b (confirms w.along.p here w.along.q w.along.at));
-    }
+    all : used_of readings left + length left ≡ length readings
+    all = omega (arith, w.few)
+
+    pub walked_did : (n : ℕ) (b : Armed) → Confirms a (Did n b) → Left worlds_in file start readings b.run left
+    walked_did n b confirms = left_did w n b.run (did_steps w.p.goal w.p.actions a w.q n b (confirms w.p here w.q w.at))
 
     pub walked_ended : (o : Over) → Confirms a (Ended o) → (p : Procedure) → procedure_of file ≡ Ok p → Walks p.goal (tree_of p) (worlds_in start) readings (used_of readings left) EndedWell
     walked_ended o confirms =
-        told a.run w.used w.used (used_of readings left) w.along EndedWell (omega (arith, w.count))
-        (along_ended worlds_in file start readings a.run w.used w.along
-        (ended_steps w.along.p.goal w.along.p.actions a w.along.q o (confirms w.along.p here w.along.q w.along.at)))
+        told a.run left w (used_of readings left) EndedWell
+        (left_ended w (used_of readings left) all (ended_steps w.p.goal w.p.actions a w.q o (confirms w.p here w.q w.at)))
 
     module _ (x : Reading) (confirms : Confirms a (Reads x)) where
-      step : Stepped worlds_in w.along.p.goal w.along.p.actions a.run.place a.run.knowledge w.along.q (Asks x.pending)
-      step = reads_steps w.along.p.goal w.along.p.actions a w.along.q x (confirms w.along.p here w.along.q w.along.at)
+      step : Stepped worlds_in w.p.goal w.p.actions a.run.place a.run.knowledge w.q (Asks x.pending)
+      step = reads_steps w.p.goal w.p.actions a w.q x (confirms w.p here w.q w.at)
 
       pub walked_used_up : length left ≡ 0 → (place : ℕ) → place ≡ x.pending.place
           → (p : Procedure) → procedure_of file ≡ Ok p → Walks p.goal (tree_of p) (worlds_in start) readings (used_of readings left) (UsedUp place)
       walked_used_up none place is =
-          told a.run w.used w.used (used_of readings left) w.along (UsedUp place) (omega (arith, w.count))
-          (rw is (along_used_up worlds_in file start readings a.run w.used w.along x.pending step (omega (arith, w.count))))
+          told a.run left w (used_of readings left) (UsedUp place) (rw is (left_used_up w x.pending step (used_of readings left) all none))
 
       module _ (v : Bool) (rest : List Bool) (more : left ≡ v ∷ rest) where
-        long : length left ≡ length rest + 1
-        long = ap length more ∙ sym (add-one _)
-
-        rest_is : drop (w.used + 1) readings ≡ rest
-        rest_is = let next = drop_more readings w.used v (omega (arith, w.count, long)) in cc (next, w.taken, more)
-
-        now : drop w.used readings ≡ v ∷ drop (w.used + 1) readings
-        now = w.taken ∙ more ∙ ap (λ xs. v ∷ xs) (sym rest_is)
-
         pub walked_refused : (d : Denied) → SettledAs x v (Err d)
             → (p : Procedure) → procedure_of file ≡ Ok p → Walks p.goal (tree_of p) (worlds_in start) readings (used_of readings left + 1) (Refused d.fault)
         walked_refused d settled =
-            told a.run w.used (w.used + 1) (used_of readings left + 1) w.along (Refused d.fault) (omega (arith, w.count, long))
-            (along_refused worlds_in file start readings a.run w.used w.along x.pending step v now d.fault (settled.1, settled.2))
+            told a.run left w (used_of readings left + 1) (Refused d.fault)
+            (left_refused w x.pending step v rest more (used_of readings left + 1) (omega (arith, w.few, ap length more)) d.fault (settled.1, settled.2))
 
-        pub walked_settled : (b : Armed) → x.permitted.loaded.value.file.now ≡ file → SettledAs x v (Ok b) → WalkedTo file start readings rest b.run
+        pub walked_settled : (b : Armed) → x.permitted.loaded.value.file.now ≡ file → SettledAs x v (Ok b) → Left worlds_in file start readings b.run rest
         walked_settled b lent settled =
-            let asked = waiting worlds_in file start readings a.run w.used w.along x.pending step in
-            let node = waiting_node worlds_in file start readings a.run w.used w.along x.pending step in
-            let goes = settled.2 w.along.p (ap procedure_of lent ∙ w.along.is) asked.a asked.t asked.e node in
-            let one = known_some b.run.knowledge in record {
-              used = w.used + 1;
-              taken = rest_is;
-              count = omega (arith, w.count, long);
-              along = along_settled worlds_in file start readings a.run w.used w.along x.pending step v now b.run ((one.0, (settled.1 one.0).0 one.1), settled.1) goes;
-            }
+            let asked = left_asking w x.pending step in
+            let goes = settled.2 w.p (ap procedure_of lent ∙ w.is) asked.a asked.t asked.e (left_node w x.pending step) in
+            let one = known_some b.run.knowledge in
+            left_settled w x.pending step v rest more b.run ((one.0, (settled.1 one.0).0 one.1), settled.1) goes
 
 -- ---- a whole visit
 

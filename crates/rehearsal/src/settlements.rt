@@ -1,6 +1,7 @@
 // How the readings of a visit are to be settled, as the arguments say it.
-ghost use Rattle.std.specs.Prelude.{◌≡◌, MatchResult, ◌≢◌};
-ghost use Rattle.rehearsal.specs.Words.{word_of, IsMemory};
+ghost use Rattle.std.specs.Prelude.{◌≡◌, IfErr, IfOk, MatchResult, ◌≢◌, drop, map, string_bytes};
+ghost use Rattle.std.specs.Vec.Iter.{into_iter_items};
+ghost use Rattle.rehearsal.specs.Words.{word_of, IsMemory, Unnamed};
 ghost use Rattle.rehearsal.specs.declared.settlements.Settlement.{Settlement};
 
 use std::alloc::{AllocError, AllocFailed, Global};
@@ -49,16 +50,29 @@ impl<T: Drop> From<AllocFailed<T>> for ParseError {
     }
 }
 
-// The settlements that the arguments name; the first argument, the program's own name, is passed over.
-pub fn parse(heap: Global, args: Args) -> Result<Vec<Settlement>, ParseError> {
+// The settlements that the words name, or the first word that names none.
+fn settlements_of(heap: Global, words: Args) -> Result<Vec<Settlement>, ParseError>
+    ensures named { IfOk result (λ v. map word_of v.items ≡ map string_bytes (into_iter_items words)) }
+    ensures unnamed { IfErr result (Unnamed (map string_bytes (into_iter_items words))) }
+{
     let mut settlements = Vec::new(heap);
-    for word in args.skip(1) {
+    for word in words {
         let Ok(settlement) = word.as_str().parse() else {
             return Err(ParseError::Word(word));
         };
         settlements.push(settlement)?;
     }
     Ok(settlements)
+}
+
+// The settlements that the arguments name; the first argument, the program's own name, is passed over.
+pub fn parse(heap: Global, args: Args) -> Result<Vec<Settlement>, ParseError>
+    ensures named { IfOk result (λ v. map word_of v.items ≡ map string_bytes (drop 1 (into_iter_items args))) }
+    ensures unnamed { IfErr result (Unnamed (map string_bytes (drop 1 (into_iter_items args)))) }
+{
+    let mut args = args;
+    let _ = args.next();
+    settlements_of(heap, args)
 }
 
 #[cfg(test)]

@@ -1,5 +1,5 @@
 -- What lasts from step to step of a walk, and what each step makes of it. Assumes nothing.
-use Rattle.std.proofs.Common.{◌≡◌, ℕ, suc, ◌+◌, ◌<◌, ◌≤◌, Bool, true, false, List, [], ◌∷◌, length, drop, Some, Ok, Err, sym, refl, ap, ◌∙◌, subst, inl, inr, arith, length-drop}
+use Rattle.std.proofs.Common.{◌≡◌, ℕ, suc, ◌+◌, ◌<◌, ◌≤◌, Bool, true, false, List, [], ◌∷◌, length, Some, Ok, Err, sym, refl, ap, ◌∙◌, subst, inl, inr, arith}
 use Rattle.std.proofs.lemmas.List.{nil_from_length}
 use Rattle.fluents.specs.Refusals.{fault_at}
 use Rattle.fluents.specs.declared.faults.Fault.{Fault}
@@ -316,77 +316,3 @@ module _ {A : Type 0} {worlds : A → ℕ → Type 0} {file : List ℕ} {start :
                     (ap (λ (j : ℕ). steps_of p.actions j q) there ∙ branch_tree p.actions run.place v left_asking.t left_asking.e)
                     (walks_same p.goal (steps_of p.actions next.place q) (worlds next.knowledge) (Told x.fluent.index v (worlds x.knowledge)) settled.1 later n s walk))));
               }
-
--- ---- the same, by how many values were taken
-
--- The run stands at a node of the plan, and the walk from there along the values behind the first ones goes on what came before.
-pub record Along {A : Type 0} (worlds : A → ℕ → Type 0) (file : List ℕ) (start : A) (readings : List Bool) (run : Run A) (used : ℕ) : Type 0 where
-  pub p : Procedure
-  pub is : procedure_of file ≡ Ok p
-  pub q : Plan
-  pub at : NodeAt p.place p.plan run.place q
-  pub few : used ≤ length readings
-  pub on : (n : ℕ) (s : Stop) → Walks p.goal (steps_of p.actions run.place q) (worlds run.knowledge) (drop used readings) n s
-      → Walks p.goal (tree_of p) (worlds start) readings (used + n) s
-
-module _ {A : Type 0} {worlds : A → ℕ → Type 0} {file : List ℕ} {start : A} {readings : List Bool} {run : Run A} {used : ℕ} where
-  abbrev left_over : Along worlds file start readings run used → Left worlds file start readings run (drop used readings)
-  left_over w = record {
-    p = w.p;
-    is = w.is;
-    q = w.q;
-    at = w.at;
-    few = omega (arith, length-drop used readings);
-    on = λ n m s e walk.
-        let same : used + n ≡ m = omega (arith, length-drop used readings, w.few, e) in
-        subst (λ (j : ℕ). Walks w.p.goal (tree_of w.p) (worlds start) readings j s) same (w.on n s walk);
-  }
-
-  abbrev along : used ≤ length readings → Left worlds file start readings run (drop used readings) → Along worlds file start readings run used
-  along few w = record { p = w.p; is = w.is; q = w.q; at = w.at; few = few; on = λ n s walk. w.on n (used + n) s (omega (arith, length-drop used readings, few)) walk }
-
-module _ {A : Type 0} (worlds : A → ℕ → Type 0) (file : List ℕ) (start : A) (readings : List Bool) where
-  pub along_begun : (p : Procedure) → procedure_of file ≡ Ok p → (run : Run A) → run.place ≡ p.place → run.knowledge ≡ start → Along worlds file start readings run 0
-  along_begun p is run there knows = along (omega arith) (left_begun p is run there knows)
-
-  module _ (run : Run A) (used : ℕ) (w : Along worlds file start readings run used) where
-    all : used + length (drop used readings) ≡ length readings
-    all = omega (arith, length-drop used readings, w.few)
-
-    pub along_within : run.place < past w.p.place w.p.plan
-    along_within = left_within (left_over w)
-
-    module _ (a : ℕ) (next : Run A) (step : Stepped worlds w.p.goal w.p.actions run.place run.knowledge w.q (Did a next)) where
-      pub further_did : run.place < next.place
-      further_did = left_on (left_over w) a next step
-
-      pub along_did : Along worlds file start readings next used
-      along_did = along w.few (left_did (left_over w) a next step)
-
-    pub along_ended : Stepped worlds w.p.goal w.p.actions run.place run.knowledge w.q Ended → Walks w.p.goal (tree_of w.p) (worlds start) readings used EndedWell
-    along_ended step = left_ended (left_over w) used all step
-
-    -- a reading waits
-    module _ (x : Pending A) (step : Stepped worlds w.p.goal w.p.actions run.place run.knowledge w.q (Asks x)) where
-      abbrev pub waiting : Asking worlds w.p.goal w.p.actions run.place run.knowledge w.q x
-      waiting = left_asking (left_over w) x step
-
-      pub waiting_node : NodeAt w.p.place w.p.plan x.place (ask waiting.a waiting.t waiting.e)
-      waiting_node = left_node (left_over w) x step
-
-      pub along_used_up : length readings ≤ used → Walks w.p.goal (tree_of w.p) (worlds start) readings used (UsedUp x.place)
-      along_used_up over = left_used_up (left_over w) x step used all (omega (arith, length-drop used readings, over))
-
-      module _ (v : Bool) (here : drop used readings ≡ v ∷ drop (used + 1) readings) where
-        long : used + 1 ≤ length readings
-        long = omega (arith, length-drop used readings, ap length here)
-
-        pub along_refused : (fault : Fault) → Settled worlds x v (Err fault) → Walks w.p.goal (tree_of w.p) (worlds start) readings (used + 1) (Refused fault)
-        along_refused fault settled = left_refused (left_over w) x step v (drop (used + 1) readings) here (used + 1) (omega (arith, length-drop (used + 1) readings, long)) fault settled
-
-        module _ (next : Run A) (settled : Settled worlds x v (Ok next)) (goes : next.place ≡ branch x.place v waiting.t) where
-          pub further_settled : run.place < next.place
-          further_settled = left_further (left_over w) x step v (drop (used + 1) readings) here next settled goes
-
-          pub along_settled : Along worlds file start readings next (used + 1)
-          along_settled = along long (left_settled (left_over w) x step v (drop (used + 1) readings) here next settled goes)

@@ -1,13 +1,14 @@
 use Rattle.std.proofs.Common.{refl, ap, ◌∙◌, arith, length}
 use Rattle.panel.proofs.Onward.{stands_within}
-use Rattle.panel.proofs.Visits.{walked_begun, walked_did, walked_ended, walked_used_up, walked_refused, walked_settled}
+use Rattle.runs.proofs.Along.{left_begun}
+use Rattle.panel.proofs.Visits.{walked_did, walked_ended, walked_used_up, walked_refused, walked_settled}
 use Rattle.panel.proofs.visit.confirm_along.Goals as goal
 
 pub loop-next-init : goal.loop-next-init
 loop-next-init c = record {
   stays = record { same = refl; permit = refl };
   few = omega arith;
-  walked = λ p is there. walked_begun _ _ _ p is _ there refl;
+  walked = λ p is there. left_begun p is _ there refl;
 }
 
 pub loop-next-smaller-in-Did : goal.loop-next-smaller-in-Did
