@@ -1,4 +1,3 @@
-pub mod Arrays
 pub mod Choosing
 pub mod Determined
 pub mod Extending

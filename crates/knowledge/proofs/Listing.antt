@@ -1,7 +1,7 @@
 -- How a list of worlds is made from the distinct ones. Assumes nothing.
-use Rattle.std.proofs.Common.{◌≡◌, ℕ, ◌<◌, ◌≤◌, List, ◌++◌, map, length, get_or, take, replicate, sym, ap, ◌∙◌, subst, ⊎_elim, arith}
+use Rattle.std.proofs.Common.{◌≡◌, ℕ, ◌+◌, ◌<◌, ◌≤◌, List, [], ◌∷◌, ◌++◌, map, length, get_or, take, set, replicate, sym, ap, ◌∙◌, subst, ⊎_elim, arith}
 use Rattle.std.specs.List.{ContainsAt as Has}
-use Rattle.std.proofs.lemmas.List.{ext_get_or, get_or_default, get_or-replicate, get_or_past, get_or-take, get_or-map, length-map, length-replicate, length-take-le, take-append-le}
+use Rattle.std.proofs.lemmas.List.{get_or_default, get_or-replicate, get_or_past, get_or-take, get_or-map, length-map, length-replicate, length-take-le, map_more, map_push, take-append-le, take_more, take_more_set}
 use Rattle.std.proofs.lemmas.Bool.{cases_lt, eqb-true, leb-false}
 use Rattle.knowledge.proofs.Choosing.{has_map, has_unmap}
 use Rattle.least.specs.Kept.{MadeOf, Ascending, Reaches}
@@ -16,14 +16,18 @@ zeros n k =
     (λ (le : n ≤ k). get_or_past (replicate n 0) k 0 (subst (λ m. m ≤ k) (sym (length-replicate n 0)) le))
     (cases_lt k n)
 
--- a list that goes on behind the images of given elements begins with their list
-pub begins_with : {X Y : Type 0} (f : X → Y) (xs : List X) (ys : List Y) (d : X) (e : Y) → length xs ≤ length ys
-    → ((i : ℕ) → i < length xs → get_or ys i e ≡ f (get_or xs i d)) → take (length xs) ys ≡ map f xs
-begins_with f xs ys d e le at =
-    ext_get_or e (take (length xs) ys) (map f xs) (length-take-le (length xs) ys le ∙ sym (length-map xs f))
-    (λ i lt.
-    let in-xs : i < length xs = omega (arith, length-take-le (length xs) ys le) in
-    get_or-take (length xs) ys i e in-xs ∙ at i in-xs ∙ sym (get_or-map f xs i d e in-xs))
+-- one more world is wrapped
+pub spread_more : (ds : List Distinct) (ws : List ℕ) (i : ℕ) (x : Distinct) → i < length ds → i < length ws → world_of x ≡ get_or ws i 0
+    → map world_of (take i ds) ≡ take i ws → map world_of (take (i + 1) (set ds i x)) ≡ take (i + 1) ws
+spread_more ds ws i x in-ds in-ws at before =
+    ap (map world_of) (take_more_set ds i x in-ds) ∙ map_push world_of (take i ds) x ∙ ap (λ xs. xs ++ world_of x ∷ []) before
+    ∙ ap (λ w. take i ws ++ w ∷ []) at ∙ sym (take_more ws i 0 in-ws)
+
+-- one more world is unwrapped
+pub padded_more : (ws : List ℕ) (ds : List Distinct) (i : ℕ) (d : Distinct) → i < length ws → i < length ds
+    → take i ws ≡ map world_of (take i ds) → take (i + 1) (set ws i (world_of (get_or ds i d))) ≡ map world_of (take (i + 1) ds)
+padded_more ws ds i d in-ws in-ds before =
+    take_more_set ws i (world_of (get_or ds i d)) in-ws ∙ ap (λ xs. xs ++ world_of (get_or ds i d) ∷ []) before ∙ sym (map_more world_of ds i d in-ds)
 
 -- a world stands in a list where it stands wrapped
 has_wrapped : (ds : List Distinct) (w : ℕ) → Has (map world_of ds) w → Has ds (record { world = w })

@@ -33,14 +33,20 @@ impl Least for Row {
         (eq-eqb _ _ (within_trans x.trues y.trues z.trues (eqb-true _ _ a.0) (eqb-true _ _ b.0)))
         (eq-eqb _ _ (within_trans x.falses y.falses z.falses (eqb-true _ _ a.1) (eqb-true _ _ b.1))) };
 
-    ghost upto_is_cmp = { Prim.search rules };
-
     ghost upto_antisymmetric = { Prim.search rules };
+
+    ghost upto_transitive = { Prim.search rules };
+
+    ghost upto_total = { Prim.search rules };
 
     ghost agrees = { Prim.search rules };
 
     fn is_below(&self, other: &Row) -> bool {
         self.trues & other.trues == self.trues && self.falses & other.falses == self.falses
+    }
+
+    fn is_upto(&self, other: &Row) -> bool {
+        self <= other
     }
 }
 
@@ -55,13 +61,19 @@ impl Least for Distinct {
 
     ghost below_transitive = { Prim.search rules };
 
-    ghost upto_is_cmp = { Prim.search rules };
-
     ghost upto_antisymmetric = { Prim.search rules };
+
+    ghost upto_transitive = { Prim.search rules };
+
+    ghost upto_total = { Prim.search rules };
 
     ghost agrees = { Prim.search rules };
 
     fn is_below(&self, other: &Distinct) -> bool {
         self == other
+    }
+
+    fn is_upto(&self, other: &Distinct) -> bool {
+        self <= other
     }
 }

@@ -4,7 +4,7 @@ ghost use Rattle.std.proofs.Common.{rules};
 use super::*;
 
 // Below another where neither coordinate is greater; in order by `x`, then by `y`.
-#[derive(Clone, Copy, PartialEq, Eq, PartialOrd, Ord, Debug)]
+#[derive(Clone, Copy, PartialEq, Eq, Debug)]
 struct Point {
     x: u8,
     y: u8,
@@ -21,14 +21,20 @@ impl Least for Point {
 
     ghost below_transitive = { Prim.search rules };
 
-    ghost upto_is_cmp = { Prim.search rules };
-
     ghost upto_antisymmetric = { Prim.search rules };
+
+    ghost upto_transitive = { Prim.search rules };
+
+    ghost upto_total = { Prim.search rules };
 
     ghost agrees = { Prim.search rules };
 
     fn is_below(&self, other: &Point) -> bool {
         self.x <= other.x && self.y <= other.y
+    }
+
+    fn is_upto(&self, other: &Point) -> bool {
+        self.x < other.x || (self.x == other.x && self.y <= other.y)
     }
 }
 

@@ -72,14 +72,6 @@ impl<const N: usize> RowVec<N> {
         &self.rows[..self.count]
     }
 
-    // Leaves no row.
-    pub(crate) fn clear(&mut self)
-        ensures { self.new ≡ [] }
-    {
-        // not `self.count = 0`, of which the check makes no proof in generic code
-        *self = RowVec::new();
-    }
-
     // Adds a row; there must be room.
     pub(crate) fn push(&mut self, row: Row)
         requires { length self.old < N }
@@ -120,5 +112,14 @@ impl<const N: usize> RowVec<N> {
             return Err(Refusal::TooManyRows.at(place));
         }
         Ok(Listed::of(rows))
+    }
+}
+
+impl Gathered {
+    // Leaves no row. It stands here, since the check makes no proof of it in generic code.
+    pub(crate) fn clear(&mut self)
+        ensures { self.new ≡ [] }
+    {
+        self.count = 0;
     }
 }

@@ -62,14 +62,30 @@ impl fmt::Display for Summary {
     }
 }
 
-// The line as a text of its own: what the file has, or why it was refused.
+// What is said about a file, as it is printed: what the file has, or why it was refused.
+#[derive(Clone, Copy, PartialEq, Eq, Debug)]
+pub struct Report {
+    pub outcome: Result<Summary, Fault>,
+}
+
+// The line of either.
+impl fmt::Display for Report {
+    ghost output = { λ report. Some (line_of report.outcome) };
+
+    fn fmt<W: fmt::Write>(&self, f: &mut fmt::Formatter<W>) -> fmt::Result {
+        match &self.outcome {
+            Ok(summary) => write!(f, "{summary}"),
+            Err(fault) => write!(f, "{fault}"),
+        }
+    }
+}
+
+// The line as a text of its own.
 pub fn line(heap: Global, report: &Result<Summary, Fault>) -> Result<String, AllocError>
     ensures { IfOk result (λ s. string_bytes s ≡ line_of report.now) }
 {
-    match report {
-        Ok(summary) => format!(in heap; "{summary}"),
-        Err(fault) => format!(in heap; "{fault}"),
-    }
+    let report = Report { outcome: *report };
+    format!(in heap; "{report}")
 }
 
 #[cfg(test)]

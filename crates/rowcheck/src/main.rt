@@ -5,6 +5,7 @@ ghost use Rattle.std.specs.Prelude.{IfOk};
 ghost use Rattle.intake.specs.Starts.{IsStart};
 
 use intake::{exit_code, first_bytes};
+use report::text::Report;
 use std::alloc::Global;
 use std::io;
 use std::io::Read;
@@ -24,10 +25,10 @@ fn read_file<R: Read + Drop>(heap: Global, input: R) -> io::Result<Vec<u8>>
 // Reads the file, and prints the line.
 fn run(rt: &HostRuntime) -> io::Result<()> {
     let file = read_file(rt.alloc(), rt.stdin())?;
-    match report::report(file.as_slice()) {
-        Ok(summary) => println!(rt; "{summary}"),
-        Err(fault) => println!(rt; "{fault}"),
-    }
+    let report = Report {
+        outcome: report::report(file.as_slice()),
+    };
+    println!(rt; "{report}")
 }
 
 // An error of reading, memory or printing ends the program with status 1 and a message.

@@ -6,7 +6,7 @@ ghost use Rattle.std.proofs.ByRecursion.{has_get_or};
 ghost use Rattle.std.proofs.lemmas.List.{length-take-le, get_or-take};
 ghost use Rattle.knowledge.specs.Worlds.{list_of};
 
-use super::WorldList;
+use super::{World, WorldList};
 use crate::actions::DoingAction;
 use crate::kinds::Knowledge;
 use arrayvec::ArrayVec;
@@ -31,15 +31,21 @@ impl Knowledge for WorldList {
     }
 
     fn apply(self, action: DoingAction) -> WorldList {
+        let mut worlds: ArrayVec<World, 64> = ArrayVec::new();
+        for world in self.as_slice() {
+            worlds.push(action.after(*world));
+        }
         // A list has 1 to 64 worlds, so the new one is made.
-        let worlds = self.worlds.map(|world| action.after(world));
-        WorldList::new(&worlds[..self.len]).unwrap()
+        WorldList::new(&worlds).unwrap()
     }
 
     fn learn(self, literal: Literal) -> Result<WorldList, Fault> {
-        let mut worlds = ArrayVec::from(self.worlds);
-        worlds.truncate(self.len);
-        worlds.retain(|world| has(*world, literal.fluent.index()) == literal.value);
-        WorldList::new(worlds.as_slice()).map_err(|_| Refusal::Contradiction.into())
+        let mut worlds: ArrayVec<World, 64> = ArrayVec::new();
+        for world in self.as_slice() {
+            if has(*world, literal.fluent.index()) == literal.value {
+                worlds.push(*world);
+            }
+        }
+        WorldList::new(&worlds).map_err(|_| Refusal::Contradiction.into())
     }
 }

@@ -8,17 +8,19 @@ use super::{World, WorldList};
 use crate::orders::Distinct;
 use fluents::faults::{Fault, Refusal};
 use least::keep_least;
-use std::array;
 
 // The worlds in an array, in the same order, as elements of the keeper's kind; a list itself holds plain numbers.
+// By a loop over the worlds, here and in `padded`: `array::from_fn` goes over all 64 places, and misses its speed.
 fn spread(worlds: &[World]) -> [Distinct; 64]
     requires { length worlds.now ≤ 64 }
     ensures long { length result ≡ 64 }
     ensures front { map world_of (take (length worlds.now) result) ≡ worlds.now }
 {
-    array::from_fn(|i| Distinct {
-        world: worlds.get(i).copied().unwrap_or(0),
-    })
+    let mut items = [Distinct { world: 0 }; 64];
+    for (i, world) in worlds.iter().enumerate() {
+        items[i] = Distinct { world: *world };
+    }
+    items
 }
 
 // The worlds in an array, in the same order, and zeros after them.
@@ -28,7 +30,11 @@ fn padded(items: &[Distinct]) -> [World; 64]
     ensures front { take (length items.now) result ≡ map world_of items.now }
     ensures blank { (k : ℕ) → length items.now ≤ k → slice_index result k ≡ 0 }
 {
-    array::from_fn(|i| items.get(i).copied().unwrap_or(Distinct { world: 0 }).world)
+    let mut array = [0; 64];
+    for (i, item) in items.iter().enumerate() {
+        array[i] = item.world;
+    }
+    array
 }
 
 impl WorldList {

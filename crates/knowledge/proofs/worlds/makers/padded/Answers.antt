@@ -1,27 +1,28 @@
-use Rattle.std.proofs.Common.{rules, ◌≡◌, ℕ, ◌<◌, ◌≤◌, length, get_or, ◌∙◌, ap, ⊎_elim, arith}
-use Rattle.std.proofs.lemmas.Bool.{cases_lt}
-use Rattle.std.proofs.lemmas.Option.{unwrap_or-slice_get}
-use Rattle.std.proofs.lemmas.List.{get_or_past}
-use Rattle.knowledge.specs.declared.orders.Distinct.{Distinct}
+use Rattle.std.proofs.Common.{◌≡◌, map, length, take, refl, ap, ◌∙◌, subst, arith}
+use Rattle.std.proofs.lemmas.List.{length-set, take_all, get_or-set_other}
 use Rattle.knowledge.specs.Worlds.{world_of}
-use Rattle.knowledge.proofs.Arrays.{filled_at}
-use Rattle.knowledge.proofs.Listing.{begins_with}
+use Rattle.knowledge.proofs.Listing.{zeros, padded_more}
 use Rattle.knowledge.proofs.worlds.makers.padded.Goals as goal
+
+pub loop-i-init : goal.loop-i-init
+loop-i-init c = (refl, refl, λ k le. zeros 64 k)
+
+pub loop-i-preserved : goal.loop-i-preserved
+loop-i-preserved c =
+    let ws = c.loop-i.array in
+    let ds = c.args.items.now in
+    let i = c.loop-i.i in (
+      length-set ws i _ ∙ c.loop-i.invariant.0,
+      padded_more ws ds i _ (omega arith) (omega arith) c.loop-i.invariant.1,
+      λ k le. get_or-set_other ws i k _ 0 (λ e. omega arith) ∙ c.loop-i.invariant.2 k (omega arith),
+    )
 
 pub returns : goal.returns
 returns c =
     let ds = c.args.items.now in
-    let ws = c.from_fn.result in
-    let made = c.from_fn.ensures.items in
-    let long : length ws ≡ 64 = made.long in
-    let d : Distinct = record { world = 0 } in
-    let at : (k : ℕ) → k < 64 → get_or ws k 0 ≡ world_of (get_or ds k d) = λ k lt.
-    filled_at _ _ (λ i. world_of (get_or ds i d)) (λ i y q called. (search (rules, called), search (rules, called, unwrap_or-slice_get))) ws 0 64 made.each k 0 (omega arith) lt in
+    let all : c.loop-i.i ≡ length ds = omega arith in
     record {
-      long = long;
-      front = begins_with world_of ds ws d 0 (omega arith) (λ i lt. at i (omega arith));
-      blank = λ k le. ⊎_elim
-          (λ (lt : k < 64). at k lt ∙ ap world_of (get_or_past ds k d le))
-          (λ (out : 64 ≤ k). get_or_past ws k 0 (omega arith))
-          (cases_lt k 64);
+      long = c.loop-i.invariant.0;
+      front = subst (λ n. take n c.loop-i.array ≡ map world_of ds) all (c.loop-i.invariant.1 ∙ ap (map world_of) (take_all c.loop-i.i ds (omega arith)));
+      blank = λ k le. c.loop-i.invariant.2 k (omega arith);
     }

@@ -1,20 +1,23 @@
-use Rattle.std.proofs.Common.{rules, ◌≡◌, ℕ, ◌<◌, map, length, get_or, ◌∙◌, sym, ap, arith}
-use Rattle.std.proofs.lemmas.Option.{unwrap_or-slice_get}
-use Rattle.std.proofs.lemmas.List.{take-map, length-map, map-id, get_or-map}
-use Rattle.knowledge.specs.declared.orders.Distinct.{Distinct}
+use Rattle.std.proofs.Common.{◌≡◌, map, length, take, refl, ◌∙◌, subst, arith}
+use Rattle.std.proofs.lemmas.List.{length-set, take_all}
 use Rattle.knowledge.specs.Worlds.{world_of}
-use Rattle.knowledge.proofs.Arrays.{filled_at}
-use Rattle.knowledge.proofs.Listing.{begins_with}
+use Rattle.knowledge.proofs.Listing.{spread_more}
 use Rattle.knowledge.proofs.worlds.makers.spread.Goals as goal
 
-pub returns-clause-front : goal.returns-clause-front
-returns-clause-front c =
+pub loop-i-preserved : goal.loop-i-preserved
+loop-i-preserved c =
+    let ds = c.loop-i.items in
     let ws = c.args.worlds.now in
-    let ds = c.from_fn.result in
-    let d : Distinct = record { world = 0 } in
-    let long : length ds ≡ 64 = c.from_fn.ensures.items.long in
-    let at : (k : ℕ) → k < 64 → get_or ds k d ≡ record { world = get_or ws k 0 } = λ k lt.
-    filled_at _ _ (λ i. record { world = get_or ws i 0 }) (λ i y q called. (search (rules, called), search (rules, called, unwrap_or-slice_get))) ds 0 64 c.from_fn.ensures.items.each k d (omega arith) lt in
-    sym (take-map world_of (length ws) ds)
-    ∙ begins_with (λ w. w) ws (map world_of ds) 0 0 (omega (arith, length-map ds world_of))
-    (λ i lt. get_or-map world_of ds i d 0 (omega arith) ∙ ap world_of (at i (omega arith))) ∙ map-id ws
+    let i = c.loop-i.i in (
+      length-set ds i _ ∙ c.loop-i.invariant.0,
+      spread_more ds ws i _ (omega arith) (omega arith) refl c.loop-i.invariant.1,
+    )
+
+pub returns : goal.returns
+returns c =
+    let ws = c.args.worlds.now in
+    let all : c.loop-i.i ≡ length ws = omega arith in
+    record {
+      long = c.loop-i.invariant.0;
+      front = subst (λ n. map world_of (take n c.loop-i.items) ≡ ws) all (c.loop-i.invariant.1 ∙ take_all c.loop-i.i ws (omega arith));
+    }
