@@ -1,8 +1,10 @@
 -- How the definitions of rows go through a list, one row after the other. Assumes nothing.
-use Rattle.std.proofs.Common.{◌≡◌, ℕ, ◌^◌, Bool, true, false, cond, List, [], ◌∷◌, ◌++◌, map, sym, refl, ap, ◌∙◌, ap₂, append_assoc, append-nil}
+use Rattle.std.proofs.Common.{◌≡◌, ℕ, ◌^◌, Bool, true, false, not, ◌&&◌, ◌||◌, cond, List, [], ◌∷◌, ◌++◌, map, sym, refl, ap, ◌∙◌, ap₂, append_assoc, append-nil}
 use Rattle.std.specs.Int.Bits.{bit_or, or_zero_l}
 use Rattle.std.proofs.lemmas.Nat.{or_comm}
 use Rattle.std.proofs.lemmas.List.{map-append}
+use Rattle.fluents.specs.Sets.{bit, only, union, minus}
+use Rattle.fluents.proofs.Bits.{bit-or, bit-minus, same_members}
 use Rattle.knowledge.specs.declared.states.Row.{Row}
 use Rattle.meaning.specs.Rows.{keep, joined, is_sound, guarded, survives, before, regressed, plus, less, allows, pairs, asked}
 
@@ -72,9 +74,23 @@ joined_alone : (f : ℕ) (v : Bool) (r : Row) → joined (plus f v blank) r ≡ 
 joined_alone f true r = λ i. record { trues = (ap (λ (n : ℕ). bit_or n r.trues) (or_zero_l (2 ^ f)) ∙ or_comm (2 ^ f) r.trues) i; falses = or_zero_l r.falses i }
 joined_alone f false r = λ i. record { trues = or_zero_l r.trues i; falses = (ap (λ (n : ℕ). bit_or n r.falses) (or_zero_l (2 ^ f)) ∙ or_comm (2 ^ f) r.falses) i }
 
-joined_alone_each : (f : ℕ) (v : Bool) (rs : List Row) → map (joined (plus f v blank)) rs ≡ map (plus f v) rs
-joined_alone_each f v [] = refl
-joined_alone_each f v (r ∷ rs) = ap₂ (λ x xs. x ∷ xs) (joined_alone f v r) (joined_alone_each f v rs)
+-- a literal that was lost comes back
+absorbed : (x y : Bool) → (y && not x || x) ≡ (y || x)
+absorbed true true = refl
+absorbed true false = refl
+absorbed false true = refl
+absorbed false false = refl
+
+union_less : (a o : ℕ) → union (minus a o) o ≡ union a o
+union_less a o = same_members _ _ (λ i. bit-or (minus a o) o i ∙ ap (λ b. b || bit o i) (bit-minus a o i) ∙ absorbed (bit o i) (bit a i) ∙ sym (bit-or a o i))
+
+plus_less : (f : ℕ) (v : Bool) (r : Row) → plus f v (less f v r) ≡ plus f v r
+plus_less f true r = λ i. record { trues = union_less r.trues (only f) i; falses = r.falses }
+plus_less f false r = λ i. record { trues = r.trues; falses = union_less r.falses (only f) i }
+
+joined_less_each : (f : ℕ) (v : Bool) (rs : List Row) → map (joined (plus f v blank)) (map (less f v) rs) ≡ map (plus f v) rs
+joined_less_each f v [] = refl
+joined_less_each f v (r ∷ rs) = ap₂ (λ x xs. x ∷ xs) (joined_alone f v (less f v r) ∙ plus_less f v r) (joined_less_each f v rs)
 
 -- ---- what is gathered, with the conditions c, behind what was there
 
@@ -82,18 +98,25 @@ pub gather_none : (c : Row) (start : List Row) → start ≡ start ++ guarded c 
 gather_none c start = sym (ap (λ l. start ++ l) (guarded_none c) ∙ append-nil start)
 
 -- the three sorts of candidates of a reading, one after the other
-pub gather_asked : (c : Row) (f : ℕ) (ts es ts' es' : List Row) → ts' ≡ keep (allows f true) ts → es' ≡ keep (allows f false) es
+pub gather_asked : (c : Row) (f : ℕ) (ts es ts' es' : List Row) → ts' ≡ map (less f true) (keep (allows f true) ts) → es' ≡ map (less f false) (keep (allows f false) es)
     → (first second third : List Row) → first ≡ guarded c (map (joined (plus f true blank)) ts')
     → second ≡ first ++ guarded c (map (joined (plus f false blank)) es')
-    → third ≡ second ++ guarded c (pairs (map (less f true) ts') (map (less f false) es'))
+    → third ≡ second ++ guarded c (pairs ts' es')
     → third ≡ guarded c (asked f ts es)
 unfolding asked
 gather_asked c f ts es ts' es' p q first second third a b d =
-    d ∙ ap (λ l. l ++ guarded c (both ts' es')) (b ∙ ap₂ (λ us vs. us ++ guarded c vs) (a ∙ ap (guarded c) (joined_alone_each f true ts')) (joined_alone_each f false es'))
-    ∙ append_assoc (guarded c (map (plus f true) ts')) (guarded c (map (plus f false) es')) (guarded c (both ts' es'))
-    ∙ ap (λ l. guarded c (map (plus f true) ts') ++ l) (sym (guarded_append c (map (plus f false) es') (both ts' es')))
-    ∙ sym (guarded_append c (map (plus f true) ts') (map (plus f false) es' ++ both ts' es'))
-    ∙ ap₂ (λ us vs. guarded c (map (plus f true) us ++ (map (plus f false) vs ++ both us vs))) p q
+    d ∙ ap₂ (λ l r. l ++ guarded c r)
+    (b ∙ ap₂ (λ l r. l ++ guarded c r) (a ∙ ap (guarded c) (ap (map (joined (plus f true blank))) p ∙ joined_less_each f true us)) (ap (map (joined (plus f false blank))) q ∙ joined_less_each f false vs))
+    (ap₂ pairs p q)
+    ∙ append_assoc (guarded c (map (plus f true) us)) (guarded c (map (plus f false) vs)) (guarded c both)
+    ∙ ap (λ l. guarded c (map (plus f true) us) ++ l) (sym (guarded_append c (map (plus f false) vs) both))
+    ∙ sym (guarded_append c (map (plus f true) us) (map (plus f false) vs ++ both))
   where
-    both : List Row → List Row → List Row
-    both us vs = pairs (map (less f true) us) (map (less f false) vs)
+    us : List Row
+    us = keep (allows f true) ts
+
+    vs : List Row
+    vs = keep (allows f false) es
+
+    both : List Row
+    both = pairs (map (less f true) us) (map (less f false) vs)

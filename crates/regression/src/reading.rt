@@ -57,26 +57,15 @@ fn without(row: Row, literal: Literal) -> Row
     }
 }
 
-// The rows that do not have the fluent the other way.
+// The rows that do not have the fluent the other way, each without the literal.
 fn agreeing(given: &Listed, literal: Literal) -> Listed
-    ensures { result ≡ keep (allows literal.fluent.index literal.value) given.now }
+    ensures { result ≡ map (less literal.fluent.index literal.value) (keep (allows literal.fluent.index literal.value) given.now) }
 {
     let mut rows = Listed::new();
     for row in given.as_slice() {
         if agrees(*row, literal) {
-            rows.push(*row);
+            rows.push(without(*row, literal));
         }
-    }
-    rows
-}
-
-// The rows without the literal.
-fn lessened(given: &Listed, literal: Literal) -> Listed
-    ensures { result ≡ map (less literal.fluent.index literal.value) given.now }
-{
-    let mut rows = Listed::new();
-    for row in given.as_slice() {
-        rows.push(without(*row, literal));
     }
     rows
 }
@@ -104,7 +93,8 @@ fn add_pairs(gathered: &mut Gathered, conditions: PartialState, trues: &Listed, 
 }
 
 // Gathers, in place of what was there, the candidates from the rows for true and those for false, with the conditions
-// of the action: where the value is known true, where it is known false, and where it is not known.
+// of the action: where the value is known true, where it is known false, and where it is not known. The rows have lost the
+// literal, and joined with it alone they have it again.
 fn ask(gathered: &mut Gathered, trues: &Listed, falses: &Listed, action: ReadingAction)
     ensures { gathered.new ≡ guarded (row_of action.conditions) (asked action.fluent.index trues.now falses.now) }
 {
@@ -122,8 +112,6 @@ fn ask(gathered: &mut Gathered, trues: &Listed, falses: &Listed, action: Reading
     gathered.clear();
     add_joined(gathered, conditions, alone(is_true), trues.as_slice());
     add_joined(gathered, conditions, alone(is_false), falses.as_slice());
-    let trues = lessened(&trues, is_true);
-    let falses = lessened(&falses, is_false);
     add_pairs(gathered, conditions, &trues, &falses);
 }
 

@@ -7,4 +7,4 @@ returns c =
     gather_asked (row_of c.args.action.conditions) c.args.action.fluent.index c.args.trues.now c.args.falses.now _ _ c.agreeing-trues.ensures c.agreeing-falses.ensures _ _ _
     (rw (c.clear.ensures, c.alone.ensures, c.as_slice.ensures.value) at c.add_joined.ensures.rows)
     (rw (c.alone-2.ensures, c.as_slice-2.ensures.value) at c.add_joined-2.ensures.rows)
-    (rw (c.lessened-trues.ensures, c.lessened-falses.ensures) at c.add_pairs.ensures)
+    c.add_pairs.ensures
